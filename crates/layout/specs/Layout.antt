@@ -1,0 +1,58 @@
+-- Document 01, "Geometry and the three lent images": the numbers that fix a store, and their limits.
+use Prim.Native.Nat.{ℕ, _+_, _-_, _*_, _%_, _^_}
+use mathlib.Core.Bool.{Bool, _&&_}
+use lib.Dec.{leb, eqb}
+use Rattle.layout.specs.declared.Geometry.{Geometry}
+
+-- The geometry with the number of bytes that a page number takes in a record and in a spare.
+pub record Layout : Type 0 where
+  -- "N data pages to a stripe"
+  pub N : ℕ
+  -- "W data bytes to a page"
+  pub W : ℕ
+  -- "K pages to a block"
+  pub K : ℕ
+  -- "B blocks to a chip"
+  pub B : ℕ
+  -- "S stripes"
+  pub S : ℕ
+  -- "M partial parities"
+  pub M : ℕ
+  -- bytes of a page number: "2 bytes each"
+  pub D : ℕ
+
+-- page numbers of two bytes
+abbrev pub layoutOf : Geometry → Layout
+layoutOf g = record { N = g .n; W = g .w; K = g .k; B = g .b; S = g .s; M = g .m; D = 2 }
+
+module _ (l : Layout) where
+  open Layout l using (N, W, K, B, S, M, D)
+
+  -- "65,535 for none": the largest number of D bytes
+  unfoldable pub none : ℕ
+  none = 256 ^ D - 1
+
+  -- the pages of a chip: "each B × K pages"
+  abbrev pub pages : ℕ
+  pages = B * K
+
+  -- "pages of W + 8 bytes"
+  abbrev pub pageBytes : ℕ
+  pageBytes = W + 8
+
+  -- "records of 32 bytes"
+  abbrev pub recordBytes : ℕ
+  recordBytes = 16 * D
+
+  -- the limits, in the paper's order
+  unfoldable pub limits : Bool
+  unfolding none
+  limits =
+      leb 2 N && leb N 6
+      && leb 16 W && leb W 4096 && eqb (W % 16) 0
+      && leb 2 K && leb K 128
+      && leb 2 B && leb B 1024
+      && leb (B * K) none
+      && leb 1 S && leb S 65535
+      && leb 1 M && leb M 254
+      && leb (S + M + 1) ((B - 1) * K)

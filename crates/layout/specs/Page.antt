@@ -1,0 +1,55 @@
+-- Document 01, "Chips": a page, its data and its spare bytes.
+use Prim.Native.Nat.{ℕ, _+_, _-_, _*_}
+use mathlib.Core.Bool.{Bool}
+use mathlib.Core.List.{List, [], _∷_, _++_}
+use lib.ListN.{take, drop, getD, replicate}
+use lib.Dec.{eqb}
+use Rattle.units.specs.Number.{number, digits}
+use Rattle.units.specs.Units.{part, unit}
+use Rattle.layout.specs.Layout.{Layout, pages, pageBytes}
+
+-- the W data bytes, and what the spare bytes say
+pub record Page : Type 0 where
+  pub bytes : List ℕ
+  pub kind : ℕ
+  pub member : ℕ
+  pub stripe : ℕ
+  -- the page that this one is a copy of
+  pub copied : ℕ
+
+-- "kind (255 clean, 68 data, 80 parity)"
+abbrev pub cleanKind : ℕ
+cleanKind = 255
+
+abbrev pub dataKind : ℕ
+dataKind = 68
+
+abbrev pub parityKind : ℕ
+parityKind = 80
+
+-- "A page is clean when its kind is 255."
+abbrev pub clean : Page → Bool
+clean x = eqb (x .kind) cleanKind
+
+module _ (l : Layout) where
+  open Layout l using (W, D)
+
+  -- "After the data stand 8 spare bytes: kind, member, stripe (2 bytes), copied-from page (2 bytes), two bytes of 255."
+  unfoldable pub pageOf : List ℕ → Page
+  pageOf xs =
+      record {
+        bytes = take W xs;
+        kind = getD (drop W xs) 0 0;
+        member = getD (drop W xs) 1 0;
+        stripe = number (part 2 2 (drop W xs));
+        copied = number (part 4 D (drop W xs));
+      }
+
+  -- the bytes of a page that is programmed
+  unfoldable pub bytesOfPage : Page → List ℕ
+  bytesOfPage x =
+      x .bytes ++ (x .kind ∷ x .member ∷ (digits 2 (x .stripe) ++ (digits D (x .copied) ++ replicate (4 - D) 255)))
+
+  -- "N + 1 chips end to end": page p of chip c
+  unfoldable pub pageAt : List ℕ → ℕ → ℕ → Page
+  pageAt chips c p = pageOf (unit (pageBytes l) (c * pages l + p) chips)

@@ -1,0 +1,11 @@
+pub mod Names
+pub mod Blocks
+pub mod Sound
+pub mod Collect
+pub mod Parity
+pub mod Write
+pub mod Read
+pub mod Format
+pub mod Refusals
+pub mod Calls
+pub mod Book

@@ -1,0 +1,38 @@
+-- Document 01: which pages the records name, "as current, old or parity".
+use Prim.Native.Nat.{ℕ}
+use mathlib.Core.Bool.{Bool, not, cond, _||_}
+use lib.Dec.{eqb}
+use Rattle.units.specs.Look.{someBelow}
+use Rattle.layout.specs.Layout.{Layout, none}
+use Rattle.layout.specs.Rotation.{parityChip, memberOn}
+use Rattle.layout.specs.Page.{dataKind, parityKind}
+use Rattle.layout.specs.Record.{Record}
+
+module _ (l : Layout) where
+  open Layout l using (S)
+
+  -- A stripe has one page on each chip: its parity page, or the current page of the member there.
+  unfoldable pub mainNumber : ℕ → ℕ → Record → ℕ
+  mainNumber c j r = cond (eqb c (parityChip l j)) (r .parity) (r .current (memberOn l j c))
+
+  -- Beside it may stand the member's old page.
+  unfoldable pub sideNumber : ℕ → ℕ → Record → ℕ
+  sideNumber c j r = cond (eqb c (parityChip l j)) (none l) (r .old (memberOn l j c))
+
+  -- the kind and the member of a page of stripe j on chip c: "member (0 for parity)"
+  unfoldable pub kindOn : ℕ → ℕ → ℕ
+  kindOn c j = cond (eqb c (parityChip l j)) parityKind dataKind
+
+  unfoldable pub memberTag : ℕ → ℕ → ℕ
+  memberTag c j = cond (eqb c (parityChip l j)) 0 (memberOn l j c)
+
+  -- the record of stripe j names page p of chip c
+  unfoldable pub names : (ℕ → Record) → ℕ → ℕ → ℕ → Bool
+  names r c p j = eqb (mainNumber c j (r j)) p || eqb (sideNumber c j (r j)) p
+
+  -- some record names it
+  unfoldable pub named : (ℕ → Record) → ℕ → ℕ → Bool
+  named r c p = someBelow S (names r c p)
+
+  abbrev pub unnamed : (ℕ → Record) → ℕ → ℕ → Bool
+  unnamed r c p = not (named r c p)

@@ -1,0 +1,68 @@
+-- Document 01, "Read".
+use Prim.Native.Nat.{ℕ, _+_}
+use mathlib.Core.Bool.{cond, _||_, _&&_, not}
+use mathlib.Core.List.{List}
+use lib.ListN.{replicate}
+use lib.Dec.{eqb}
+use Rattle.units.specs.Xor.{_⊕_}
+use Rattle.layout.specs.Layout.{Layout, none}
+use Rattle.layout.specs.Rotation.{parityChip, memberChip, memberOf, stripeOf}
+use Rattle.layout.specs.Page.{pageAt}
+use Rattle.layout.specs.Record.{Record, recordAt, bit}
+use Rattle.layout.specs.Images.{Images, slotAt}
+use Rattle.rules.specs.Sound.{isNone}
+use Rattle.rules.specs.Parity.{bytesAt, readsAt, gathered, gatheredReads}
+
+-- what a page is found to hold, and the pages read for it
+pub record Fetched : Type 0 where
+  pub bytes : List ℕ
+  pub reads : ℕ
+
+module _ (l : Layout) where
+  open Layout l using (W)
+
+  -- "the other pages of the bitmap"
+  unfoldable pub othersInside : ℕ → Record → ℕ → ℕ
+  othersInside m r i = cond (bit r i && not (eqb i m)) (r .current i) (none l)
+
+  -- "old page of each set member" and "current page of each other clear one"
+  unfoldable pub othersUnderParity : ℕ → Record → ℕ → ℕ
+  othersUnderParity m r i = cond (bit r i) (r .old i) (cond (eqb i m) (none l) (r .current i))
+
+  -- "bit set, slot ⊕ the other pages of the bitmap"
+  unfoldable pub throughPartial : Images → ℕ → ℕ → Record → Fetched
+  throughPartial s j m r =
+      record {
+        bytes = slotAt l (s .slots) (r .slot) ⊕ gathered l (pageAt l (s .chips)) j (othersInside m r);
+        reads = gatheredReads l (othersInside m r);
+      }
+
+  -- "bit clear, parity page ⊕ old page of each set member ⊕ current page of each other clear one"
+  unfoldable pub throughParity : Images → ℕ → ℕ → Record → Fetched
+  throughParity s j m r =
+      record {
+        bytes =
+            bytesAt l (pageAt l (s .chips)) (parityChip l j) (r .parity)
+            ⊕ gathered l (pageAt l (s .chips)) j (othersUnderParity m r);
+        reads = readsAt l (r .parity) + gatheredReads l (othersUnderParity m r);
+      }
+
+  -- "On the lost chip, a written page is gathered"
+  abbrev pub rebuilt : Images → ℕ → ℕ → Record → Fetched
+  rebuilt s j m r = cond (bit r m) (throughPartial s j m r) (throughParity s j m r)
+
+  abbrev pub direct : Images → ℕ → ℕ → Record → Fetched
+  direct s j m r = record { bytes = pageAt l (s .chips) (memberChip l j m) (r .current m) .bytes; reads = 1 }
+
+  abbrev pub unwritten : Fetched
+  unwritten = record { bytes = replicate W 0; reads = 0 }
+
+  -- "copies the current page; zeros if none"
+  unfoldable pub fetchMember : Images → ℕ → ℕ → ℕ → Record → Fetched
+  fetchMember s lost j m r =
+      cond (isNone l (r .current m)) unwritten
+      (cond (eqb (memberChip l j m) lost) (rebuilt s j m r) (direct s j m r))
+
+  -- the read of logical page i
+  unfoldable pub fetch : Images → ℕ → ℕ → Fetched
+  fetch s lost i = fetchMember s lost (stripeOf l i) (memberOf l i) (recordAt l (s .records) (stripeOf l i))

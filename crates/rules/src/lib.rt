@@ -1,0 +1,36 @@
+//! What the calls of a store answer.
+
+use stores::Counts;
+
+// The rows of document 01's table, "Where a call is turned back", named by its first column.
+pub enum Refusal {
+    Geometry,
+    Buffers,
+    LostChip,
+    Records,
+    Spares,
+    Collection,
+    Request,
+    Data,
+    ChipSet,
+    Work,
+}
+
+// What the checks of a call come to.
+pub enum Check {
+    Passed,
+    Failed(Refusal),
+}
+
+// The answer of a call that stores.
+pub enum Answer {
+    Done(Counts),
+    Cut(Counts),
+    Refused(Refusal),
+}
+
+// The answer of a read, which stores nothing and so is never cut.
+pub enum Reading {
+    Done(Counts),
+    Refused(Refusal),
+}

@@ -1,0 +1,4 @@
+pub mod Look
+pub mod Number
+pub mod Units
+pub mod Xor

@@ -1,0 +1,7 @@
+//! Byte lists as arrays of units, and the ways to look through a range of numbers.
+
+// What a search answers.
+pub enum Found {
+    At(u64),
+    Nothing,
+}
