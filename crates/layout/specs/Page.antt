@@ -1,9 +1,9 @@
 -- Document 01, "Chips": a page, its data and its spare bytes.
 use Prim.Native.Nat.{ℕ, _+_, _-_, _*_}
-use mathlib.Core.Bool.{Bool}
+use mathlib.Core.Bool.{Bool, cond}
 use mathlib.Core.List.{List, [], _∷_, _++_}
-use lib.ListN.{take, drop, getD, replicate}
-use lib.Dec.{eqb}
+use lib.ListN.{take, getD, replicate}
+use lib.Dec.{ltb, eqb}
 use Rattle.units.specs.Number.{number, digits}
 use Rattle.units.specs.Units.{part, unit}
 use Rattle.layout.specs.Layout.{Layout, pages, pageBytes}
@@ -39,10 +39,10 @@ module _ (l : Layout) where
   pageOf xs =
       record {
         bytes = take W xs;
-        kind = getD (drop W xs) 0 0;
-        member = getD (drop W xs) 1 0;
-        stripe = number (part 2 2 (drop W xs));
-        copied = number (part 4 D (drop W xs));
+        kind = getD xs W 0;
+        member = getD xs (W + 1) 0;
+        stripe = number (part (W + 2) 2 xs);
+        copied = number (part (W + 4) D xs);
       }
 
   -- the bytes of a page that is programmed
@@ -50,6 +50,6 @@ module _ (l : Layout) where
   bytesOfPage x =
       x .bytes ++ (x .kind ∷ x .member ∷ (digits 2 (x .stripe) ++ (digits D (x .copied) ++ replicate (4 - D) 255)))
 
-  -- "N + 1 chips end to end": page p of chip c
+  -- "N + 1 chips end to end": page p of chip c; beyond the pages of a chip, that of no bytes
   unfoldable pub pageAt : List ℕ → ℕ → ℕ → Page
-  pageAt chips c p = pageOf (unit (pageBytes l) (c * pages l + p) chips)
+  pageAt chips c p = pageOf (cond (ltb p (pages l)) (unit (pageBytes l) (c * pages l + p) chips) [])

@@ -2,8 +2,8 @@
 use Prim.Native.Nat.{ℕ, zero, suc, _+_, _-_, _*_, _/_, _%_, _^_}
 use mathlib.Core.Bool.{Bool, not, cond}
 use mathlib.Core.List.{List, [], _∷_, _++_}
-use lib.ListN.{drop, getD}
-use lib.Dec.{eqb}
+use lib.ListN.{getD}
+use lib.Dec.{ltb, eqb}
 use Rattle.units.specs.Number.{number, digits}
 use Rattle.units.specs.Units.{part, unit}
 use Rattle.layout.specs.Layout.{Layout, none, recordBytes}
@@ -39,17 +39,21 @@ row d f zero = []
 row d f (suc n) = row d f n ++ digits d (f n)
 
 module _ (l : Layout) where
-  open Layout l using (D)
+  open Layout l using (S, D)
 
   -- the bytes after the slot: "four of 0"
   abbrev pub restBytes : ℕ
   restBytes = 3 * D - 2
 
+  -- number m of the six that begin with number `from` of the record; beyond the six there is none
+  unfoldable pub sixFrom : ℕ → List ℕ → ℕ → ℕ
+  sixFrom from xs m = cond (ltb m 6) (number (part ((from + m) * D) D xs)) (none l)
+
   unfoldable pub recordOf : List ℕ → Record
   recordOf xs =
       record {
-        current = λ m. number (part (m * D) D xs);
-        old = λ m. number (part ((6 + m) * D) D xs);
+        current = sixFrom 0 xs;
+        old = sixFrom 6 xs;
         parity = number (part (12 * D) D xs);
         bitmap = getD xs (13 * D) 0;
         slot = getD xs (13 * D + 1) 0;
@@ -66,5 +70,6 @@ module _ (l : Layout) where
   emptyRecord =
       record { current = λ m. none l; old = λ m. none l; parity = none l; bitmap = 0; slot = noSlot; rest = 0 }
 
+  -- the record of stripe j; beyond the S stripes, that of no bytes
   unfoldable pub recordAt : List ℕ → ℕ → Record
-  recordAt records j = recordOf (unit (recordBytes l) j records)
+  recordAt records j = recordOf (cond (ltb j S) (unit (recordBytes l) j records) [])

@@ -1,4 +1,5 @@
 pub mod Look
 pub mod Number
+pub mod Rows
 pub mod Units
 pub mod Xor

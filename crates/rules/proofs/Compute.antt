@@ -1,0 +1,28 @@
+-- Names every definition that a computed row looks through, so that a row says `unfolding computes` alone.
+use Prim.Native.Nat.{ℕ}
+use Rattle.units.specs.Look.{allBelow, someBelow, countBelow, firstBelow, leastBelow}
+use Rattle.units.specs.Number.{number, digits}
+use Rattle.units.specs.Units.{part, put, unit, unitPut}
+use Rattle.units.specs.Xor.{_⊕_, xorBelow}
+use Rattle.layout.specs.Collection.{collectionOf, bytesOfCollection, collectionAt}
+use Rattle.layout.specs.Images.{chipsLength, recordsLength, slotsLength, lengths, slotAt}
+use Rattle.layout.specs.Layout.{none, limits}
+use Rattle.layout.specs.Page.{pageOf, bytesOfPage, pageAt}
+use Rattle.layout.specs.Record.{bit, at, row, sixFrom, recordOf, bytesOfRecord, emptyRecord, recordAt}
+use Rattle.layout.specs.Rotation.{parityChip, memberChip, memberOn}
+use Rattle.stores.specs.Steps.{applyAll, andThen, counted, countedAll, stepsBelow, thenBelow}
+use Rattle.stores.specs.Store.{programmed, erased, recorded, apply}
+use Rattle.rules.specs.Blocks.{cleanBlock, fullBlock, openBlock, lowestCleanBlock, placeOf, namedCount, collectable, victimOf}
+use Rattle.rules.specs.Calls.{run, formatCall, openCall, writeCall, commitCall, collectCall, readCall}
+use Rattle.rules.specs.Collect.{copySteps, repointed, due, moveSteps, finishOf, finishSteps, copied, collectSteps, lookAgain, placed, openSteps}
+use Rattle.rules.specs.Format.{formatSteps}
+use Rattle.rules.specs.Names.{mainNumber, sideNumber, kindOn, memberTag, names, named}
+use Rattle.rules.specs.Parity.{bytesAt, readsAt, gathered, gatheredReads, setBits, costOf, cheapest, lowestFreeSlot, currentOutside, oldInside, newParity, newParityReads, committed, commitAt, commitSteps}
+use Rattle.rules.specs.Read.{othersInside, othersUnderParity, throughPartial, throughParity, fetchMember, fetch}
+use Rattle.rules.specs.Refusals.{formatCheck, imagesCheck, openCheck, readCheck, writeCheck, commitCheck, collectCheck}
+use Rattle.rules.specs.Sound.{memberSound, recordSound, collectionSound, recordsSound, taggedStripe, orderedBlock, twin, phase1Sound, phase2Sound, chipSound, sparesSound}
+use Rattle.rules.specs.Write.{commitOwed, owedSteps, newPartial, newPartialReads, written, heldSteps, writeAt, writeMember, writeSteps}
+
+unfoldable pub computes : ℕ
+unfolding allBelow someBelow countBelow firstBelow leastBelow number digits part put unit unitPut _⊕_ xorBelow collectionOf bytesOfCollection collectionAt chipsLength recordsLength slotsLength lengths slotAt none limits pageOf bytesOfPage pageAt bit at row sixFrom recordOf bytesOfRecord emptyRecord recordAt parityChip memberChip memberOn applyAll andThen counted countedAll stepsBelow thenBelow programmed erased recorded apply cleanBlock fullBlock openBlock lowestCleanBlock placeOf namedCount collectable victimOf run formatCall openCall writeCall commitCall collectCall readCall copySteps repointed due moveSteps finishOf finishSteps copied collectSteps lookAgain placed openSteps formatSteps mainNumber sideNumber kindOn memberTag names named bytesAt readsAt gathered gatheredReads setBits costOf cheapest lowestFreeSlot currentOutside oldInside newParity newParityReads committed commitAt commitSteps othersInside othersUnderParity throughPartial throughParity fetchMember fetch formatCheck imagesCheck openCheck readCheck writeCheck commitCheck collectCheck memberSound recordSound collectionSound recordsSound taggedStripe orderedBlock twin phase1Sound phase2Sound chipSound sparesSound commitOwed owedSteps newPartial newPartialReads written heldSteps writeAt writeMember writeSteps
+computes = 0
