@@ -30,7 +30,7 @@ part-first k xs ys e = part-append-left 0 k xs ys (omega arith) ∙ part-whole k
 pub number-first : (k x : ℕ) (ys : List ℕ) → x < 256 ^ k → number (part 0 k (digits k x ++ ys)) ≡ x
 number-first k x ys h = rw (part-first k (digits k x) ys (length-digits k x)) (number-digits k x h)
 
-module _ (l : Layout) (narrow : l .D ≤ 4) where
+module _ (l : Layout) where
   open Layout l using (W, D)
 
   -- a page whose numbers fit their fields
@@ -39,7 +39,24 @@ module _ (l : Layout) (narrow : l .D ≤ 4) where
     pub stripe : x .stripe < 256 ^ 2
     pub copied : x .copied < 256 ^ D
 
-  pub length-page : (x : Page) → PageFits x → length (bytesOfPage l x) ≡ pageBytes l
+  -- a record whose numbers fit their fields, and that has none beyond the six
+  pub record RecordFits (r : Record) : Type 0 where
+    pub current : (m : ℕ) → m < 6 → r .current m < 256 ^ D
+    pub old : (m : ℕ) → m < 6 → r .old m < 256 ^ D
+    pub beyond : (m : ℕ) → 6 ≤ m → (r .current m ≡ none l) × (r .old m ≡ none l)
+    pub parity : r .parity < 256 ^ D
+    pub rest : r .rest < 256 ^ restBytes l
+
+  -- a collection record whose numbers fit their fields
+  pub record CollectionFits (co : Collection) : Type 0 where
+    pub victim : co .victim < 256 ^ 2
+    pub destination : co .destination < 256 ^ 2
+    pub rest : co .rest < 256 ^ (recordBytes l - 6)
+
+module _ (l : Layout) (narrow : l .D ≤ 4) where
+  open Layout l using (W, D)
+
+  pub length-page : (x : Page) → PageFits l x → length (bytesOfPage l x) ≡ pageBytes l
   unfolding bytesOfPage
   length-page x f = simp (length-append, length-digits, length-replicate) (omega (arith, f .whole))
 
@@ -47,7 +64,7 @@ module _ (l : Layout) (narrow : l .D ≤ 4) where
   behind : (a k : ℕ) (x y : ℕ) (ys : List ℕ) → part (2 + a) k (x ∷ y ∷ ys) ≡ part a k ys
   behind a k x y ys = part-append-from 2 a k (x ∷ y ∷ []) ys refl
 
-  page-stripe : (x : Page) → PageFits x → pageOf l (bytesOfPage l x) .stripe ≡ x .stripe
+  page-stripe : (x : Page) → PageFits l x → pageOf l (bytesOfPage l x) .stripe ≡ x .stripe
   unfolding bytesOfPage pageOf
   page-stripe x f =
       let tail = digits D (x .copied) ++ replicate (4 - D) 255 in
@@ -55,7 +72,7 @@ module _ (l : Layout) (narrow : l .D ≤ 4) where
       ap number (part-append-from W 2 2 (x .bytes) spare (f .whole) ∙ behind 0 2 (x .kind) (x .member) (digits 2 (x .stripe) ++ tail))
       ∙ number-first 2 (x .stripe) tail (f .stripe)
 
-  page-copied : (x : Page) → PageFits x → pageOf l (bytesOfPage l x) .copied ≡ x .copied
+  page-copied : (x : Page) → PageFits l x → pageOf l (bytesOfPage l x) .copied ≡ x .copied
   unfolding bytesOfPage pageOf
   page-copied x f =
       let tail = digits D (x .copied) ++ replicate (4 - D) 255 in
@@ -66,7 +83,7 @@ module _ (l : Layout) (narrow : l .D ≤ 4) where
       ∙ part-append-from 2 0 D (digits 2 (x .stripe)) tail (length-digits 2 (x .stripe)))
       ∙ number-first D (x .copied) (replicate (4 - D) 255) (f .copied)
 
-  pub page-decodes : (x : Page) → PageFits x → pageOf l (bytesOfPage l x) ≡ x
+  pub page-decodes : (x : Page) → PageFits l x → pageOf l (bytesOfPage l x) ≡ x
   unfolding bytesOfPage pageOf
   page-decodes x f =
       let rest = digits 2 (x .stripe) ++ (digits D (x .copied) ++ replicate (4 - D) 255) in
@@ -102,14 +119,6 @@ row-part d f (suc n) m h = row-next d f n m h (row-part d f n m)
 
 module _ (l : Layout) (some : 1 ≤ l .D) where
   open Layout l using (D)
-
-  -- a record whose numbers fit their fields, and that has none beyond the six
-  pub record RecordFits (r : Record) : Type 0 where
-    pub current : (m : ℕ) → m < 6 → r .current m < 256 ^ D
-    pub old : (m : ℕ) → m < 6 → r .old m < 256 ^ D
-    pub beyond : (m : ℕ) → 6 ≤ m → (r .current m ≡ none l) × (r .old m ≡ none l)
-    pub parity : r .parity < 256 ^ D
-    pub rest : r .rest < 256 ^ restBytes l
 
   pub length-record : (r : Record) → length (bytesOfRecord l r) ≡ recordBytes l
   unfolding bytesOfRecord
@@ -151,17 +160,17 @@ module _ (l : Layout) (some : 1 ≤ l .D) where
   unfolding tailOf
   fronted r = regrouped r ∙ sym (append-assoc (numbersOf r) (digits D (r .parity)) (r .bitmap ∷ r .slot ∷ digits (restBytes l) (r .rest)))
 
-  record-current : (r : Record) → RecordFits r → recordOf l (bytesOfRecord l r) .current ≡ r .current
+  record-current : (r : Record) → RecordFits l r → recordOf l (bytesOfRecord l r) .current ≡ r .current
   unfolding recordOf bytesOfRecord tailOf
   record-current r f =
       six-decodes 0 (r .current) [] (row D (r .old) 6 ++ tailOf r) (sym (zero-mul D)) (f .current) (λ m b. f .beyond m b .0)
 
-  record-old : (r : Record) → RecordFits r → recordOf l (bytesOfRecord l r) .old ≡ r .old
+  record-old : (r : Record) → RecordFits l r → recordOf l (bytesOfRecord l r) .old ≡ r .old
   unfolding recordOf bytesOfRecord tailOf
   record-old r f =
       six-decodes 6 (r .old) (row D (r .current) 6) (tailOf r) (length-row D (r .current) 6) (f .old) (λ m b. f .beyond m b .1)
 
-  record-parity : (r : Record) → RecordFits r → recordOf l (bytesOfRecord l r) .parity ≡ r .parity
+  record-parity : (r : Record) → RecordFits l r → recordOf l (bytesOfRecord l r) .parity ≡ r .parity
   unfolding recordOf tailOf
   record-parity r f =
       rw (regrouped r)
@@ -182,7 +191,7 @@ module _ (l : Layout) (some : 1 ≤ l .D) where
     record-slot =
         rw (fronted r) (getD-from (13 * D) 1 (numbersOf r ++ digits D (r .parity)) ending 0 (length-front r))
 
-    record-rest : RecordFits r → recordOf l (bytesOfRecord l r) .rest ≡ r .rest
+    record-rest : RecordFits l r → recordOf l (bytesOfRecord l r) .rest ≡ r .rest
     unfolding recordOf ending
     record-rest f =
         rw (fronted r)
@@ -192,7 +201,7 @@ module _ (l : Layout) (some : 1 ≤ l .D) where
         ∙ part-whole (restBytes l) (digits (restBytes l) (r .rest)) (length-digits (restBytes l) (r .rest)))
         ∙ number-digits (restBytes l) (r .rest) (f .rest))
 
-  pub record-decodes : (r : Record) → RecordFits r → recordOf l (bytesOfRecord l r) ≡ r
+  pub record-decodes : (r : Record) → RecordFits l r → recordOf l (bytesOfRecord l r) ≡ r
   record-decodes r f = λ i. record {
     current = record-current r f i;
     old = record-old r f i;
@@ -202,17 +211,11 @@ module _ (l : Layout) (some : 1 ≤ l .D) where
     rest = record-rest r f i;
   }
 
-  -- a collection record whose numbers fit their fields
-  pub record CollectionFits (co : Collection) : Type 0 where
-    pub victim : co .victim < 256 ^ 2
-    pub destination : co .destination < 256 ^ 2
-    pub rest : co .rest < 256 ^ (recordBytes l - 6)
-
   pub length-collection : (co : Collection) → length (bytesOfCollection l co) ≡ recordBytes l
   unfolding bytesOfCollection
   length-collection co = simp (length-append, length-digits) (omega arith)
 
-  pub collection-decodes : (co : Collection) → CollectionFits co → collectionOf l (bytesOfCollection l co) ≡ co
+  pub collection-decodes : (co : Collection) → CollectionFits l co → collectionOf l (bytesOfCollection l co) ≡ co
   unfolding collectionOf bytesOfCollection
   collection-decodes co f =
       let d = digits 2 (co .destination) in

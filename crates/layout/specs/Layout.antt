@@ -1,7 +1,7 @@
 -- Document 01, "Geometry and the three lent images": the numbers that fix a store, and their limits.
 use Prim.Native.Nat.{ℕ, _+_, _-_, _*_, _%_, _^_}
 use mathlib.Core.Bool.{Bool, _&&_}
-use lib.Dec.{leb, eqb}
+use lib.Dec.{leb, ltb, eqb}
 use Rattle.layout.specs.declared.Geometry.{Geometry}
 
 -- The geometry with the number of bytes that a page number takes in a record and in a spare.
@@ -35,6 +35,14 @@ module _ (l : Layout) where
   -- the pages of a chip: "each B × K pages"
   abbrev pub pages : ℕ
   pages = B * K
+
+  -- "Page number = block × K + place in block."
+  abbrev pub pageIn : ℕ → ℕ → ℕ
+  pageIn b i = b * K + i
+
+  -- page p is in block b
+  abbrev pub inBlock : ℕ → ℕ → Bool
+  inBlock b p = leb (b * K) p && ltb p (b * K + K)
 
   -- "pages of W + 8 bytes"
   abbrev pub pageBytes : ℕ

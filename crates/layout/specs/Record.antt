@@ -29,10 +29,6 @@ noSlot = 255
 abbrev pub hasSlot : Record → Bool
 hasSlot r = not (eqb (r .slot) noSlot)
 
--- f with x at m
-unfoldable pub at : ℕ → ℕ → (ℕ → ℕ) → ℕ → ℕ
-at m x f i = cond (eqb i m) x (f i)
-
 -- the numbers f 0, f 1, .. below n, in d bytes each
 unfoldable pub row : ℕ → (ℕ → ℕ) → ℕ → List ℕ
 row d f zero = []

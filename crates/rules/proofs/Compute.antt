@@ -3,12 +3,13 @@ use Prim.Native.Nat.{ℕ}
 use Rattle.units.specs.Look.{allBelow, someBelow, countBelow, firstBelow, leastBelow}
 use Rattle.units.specs.Number.{number, digits}
 use Rattle.units.specs.Units.{part, put, unit, unitPut}
+use Rattle.units.specs.Update.{at}
 use Rattle.units.specs.Xor.{_⊕_, xorBelow}
 use Rattle.layout.specs.Collection.{collectionOf, bytesOfCollection, collectionAt}
 use Rattle.layout.specs.Images.{chipsLength, recordsLength, slotsLength, lengths, slotAt}
 use Rattle.layout.specs.Layout.{none, limits}
 use Rattle.layout.specs.Page.{pageOf, bytesOfPage, pageAt}
-use Rattle.layout.specs.Record.{bit, at, row, sixFrom, recordOf, bytesOfRecord, emptyRecord, recordAt}
+use Rattle.layout.specs.Record.{bit, row, sixFrom, recordOf, bytesOfRecord, emptyRecord, recordAt}
 use Rattle.layout.specs.Rotation.{parityChip, memberChip, memberOn}
 use Rattle.stores.specs.Steps.{applyAll, andThen, counted, countedAll, stepsBelow, thenBelow}
 use Rattle.stores.specs.Store.{programmed, erased, recorded, apply}

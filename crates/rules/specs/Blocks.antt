@@ -6,7 +6,7 @@ use lib.Dec.{leb}
 use Rattle.units.specs.declared.Found.{Found}
 use Rattle.units.specs.declared.Found.the-variants.{At, Nothing}
 use Rattle.units.specs.Look.{allBelow, someBelow, countBelow, firstBelow, leastBelow, orElse}
-use Rattle.layout.specs.Layout.{Layout}
+use Rattle.layout.specs.Layout.{Layout, pageIn}
 use Rattle.layout.specs.Page.{Page, clean}
 use Rattle.layout.specs.Record.{Record}
 use Rattle.rules.specs.Names.{named, unnamed}
@@ -14,13 +14,9 @@ use Rattle.rules.specs.Names.{named, unnamed}
 module _ (l : Layout) where
   open Layout l using (K, B)
 
-  -- "Page number = block × K + place in block."
-  abbrev pub pageIn : ℕ → ℕ → ℕ
-  pageIn b i = b * K + i
-
   -- place i of block b is clean
   abbrev pub cleanIn : (ℕ → Page) → ℕ → ℕ → Bool
-  cleanIn x b i = clean (x (pageIn b i))
+  cleanIn x b i = clean (x (pageIn l b i))
 
   abbrev pub usedIn : (ℕ → Page) → ℕ → ℕ → Bool
   usedIn x b i = not (cleanIn x b i)
@@ -38,7 +34,7 @@ module _ (l : Layout) where
 
   -- the place found in block b, as a page
   abbrev pub pageFound : ℕ → Found → Found
-  pageFound b (At i) = At (pageIn b i)
+  pageFound b (At i) = At (pageIn l b i)
   pageFound b Nothing = Nothing
 
   abbrev pub lowestCleanIn : (ℕ → Page) → Found → Found
@@ -46,7 +42,7 @@ module _ (l : Layout) where
   lowestCleanIn x Nothing = Nothing
 
   abbrev pub firstPageOf : Found → Found
-  firstPageOf (At b) = At (pageIn b 0)
+  firstPageOf (At b) = At (pageIn l b 0)
   firstPageOf Nothing = Nothing
 
   -- "the destination is the lowest clean block"
@@ -62,10 +58,10 @@ module _ (l : Layout) where
 
   module _ (r : ℕ → Record) (c : ℕ) where
     abbrev pub namedIn : ℕ → ℕ → Bool
-    namedIn b i = named l r c (pageIn b i)
+    namedIn b i = named l r c (pageIn l b i)
 
     abbrev pub unnamedIn : ℕ → ℕ → Bool
-    unnamedIn b i = unnamed l r c (pageIn b i)
+    unnamedIn b i = unnamed l r c (pageIn l b i)
 
     -- how many pages of block b are named
     unfoldable pub namedCount : ℕ → ℕ

@@ -1,11 +1,10 @@
 -- Document 01, "The price book", and demand 3 as one statement.
 use Prim.Native.Nat.{ℕ, _*_, _≤_, _<_}
 use mathlib.Core.Path.{_≡_}
-use mathlib.Core.Bool.{cond}
 use mathlib.Core.List.{List, [], _∷_}
 use lib.ListN.{length, replicate}
-use lib.Dec.{eqb}
 use Rattle.units.specs.Units.{unitPut}
+use Rattle.units.specs.Update.{at}
 use Rattle.layout.specs.Layout.{Layout, pages, pageBytes}
 use Rattle.layout.specs.Images.{Images}
 use Rattle.stores.specs.declared.Counts.{Counts}
@@ -58,16 +57,12 @@ Book = ℕ → List ℕ
 abbrev pub finished : Layout → Book
 finished l i = replicate (l .W) 0
 
--- page i holds xs from here on
-abbrev pub entered : ℕ → List ℕ → Book → Book
-entered i xs book k = cond (eqb k i) xs (book k)
-
 -- "A write answered done is completed: its W bytes go into its page. A write cut or refused changes nothing.
 -- Nor does any open, read, commit or collect, however answered."
 unfoldable pub booked : Call → Verdict → Book → Book
 booked (open-call lost a) v book = book
 booked (read-call lost page buffer) v book = book
-booked (write-call lost page xs a) done book = entered page xs book
+booked (write-call lost page xs a) done book = at page xs book
 booked (write-call lost page xs a) cut book = book
 booked (write-call lost page xs a) refused book = book
 booked (commit-call lost j a) v book = book

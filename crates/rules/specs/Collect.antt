@@ -6,16 +6,17 @@ use lib.Dec.{leb, ltb, eqb}
 use Rattle.units.specs.declared.Found.{Found}
 use Rattle.units.specs.declared.Found.the-variants.{At, Nothing}
 use Rattle.units.specs.Look.{countBelow}
-use Rattle.layout.specs.Layout.{Layout, none}
+use Rattle.units.specs.Update.{at}
+use Rattle.layout.specs.Layout.{Layout, pageIn, inBlock}
 use Rattle.layout.specs.Rotation.{parityChip, memberOn}
 use Rattle.layout.specs.Page.{Page, pageAt}
-use Rattle.layout.specs.Record.{Record, recordAt, at}
+use Rattle.layout.specs.Record.{Record, recordAt}
 use Rattle.layout.specs.Collection.{Collection, collectionAt, idle}
 use Rattle.layout.specs.Images.{Images}
 use Rattle.stores.specs.Store.{program, erase, stripe, collection}
 use Rattle.stores.specs.Steps.{Step, plain, andThen, stepsBelow, thenBelow}
 use Rattle.rules.specs.Names.{named}
-use Rattle.rules.specs.Blocks.{pageIn, namedIn, lowestCleanBlock, victimOf, placeOf}
+use Rattle.rules.specs.Blocks.{namedIn, lowestCleanBlock, victimOf, placeOf}
 use Rattle.rules.specs.Sound.{twin}
 
 module _ (l : Layout) where
@@ -72,8 +73,7 @@ module _ (l : Layout) where
   -- page q holds the copy of a page that is still named in the victim
   unfoldable pub due : Images → Collection → ℕ → Bool
   due s co q =
-      leb (pageIn l (co .victim) 0) (pageAt l (s .chips) (co .chip) q .copied)
-      && ltb (pageAt l (s .chips) (co .chip) q .copied) (pageIn l (co .victim) K)
+      inBlock l (co .victim) (pageAt l (s .chips) (co .chip) q .copied)
       && named l (recordAt l (s .records)) (co .chip) (pageAt l (s .chips) (co .chip) q .copied)
       && twin l (recordAt l (s .records)) (pageAt l (s .chips) (co .chip)) (co .chip)
       (pageAt l (s .chips) (co .chip) q .copied) q

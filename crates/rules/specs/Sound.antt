@@ -3,12 +3,12 @@ use Prim.Native.Nat.{ℕ, _+_, _-_, _*_, _^_}
 use mathlib.Core.Bool.{Bool, not, cond, _&&_, _||_}
 use lib.Dec.{leb, ltb, eqb}
 use Rattle.units.specs.Look.{allBelow, someBelow, countBelow}
-use Rattle.layout.specs.Layout.{Layout, none, pages}
+use Rattle.layout.specs.Layout.{Layout, none, pages, pageIn}
 use Rattle.layout.specs.Page.{Page}
 use Rattle.layout.specs.Record.{Record, bit, noSlot, hasSlot}
 use Rattle.layout.specs.Collection.{Collection}
 use Rattle.rules.specs.Names.{mainNumber, sideNumber, kindOn, memberTag, named, unnamed}
-use Rattle.rules.specs.Blocks.{pageIn, cleanIn, cleanBlock, namedIn, unnamedIn}
+use Rattle.rules.specs.Blocks.{cleanIn, cleanBlock, namedIn, unnamedIn}
 
 module _ (l : Layout) where
   open Layout l using (N, K, B, S, M)

@@ -7,11 +7,12 @@ use lib.Bits.{bitOr}
 use Rattle.units.specs.declared.Found.{Found}
 use Rattle.units.specs.declared.Found.the-variants.{At, Nothing}
 use Rattle.units.specs.Look.{countBelow}
+use Rattle.units.specs.Update.{at}
 use Rattle.units.specs.Xor.{_⊕_}
 use Rattle.layout.specs.Layout.{Layout, none}
 use Rattle.layout.specs.Rotation.{memberChip, memberOf, stripeOf}
 use Rattle.layout.specs.Page.{Page, pageAt, dataKind}
-use Rattle.layout.specs.Record.{Record, recordAt, bit, hasSlot, at}
+use Rattle.layout.specs.Record.{Record, recordAt, bit, hasSlot}
 use Rattle.layout.specs.Images.{Images, slotAt}
 use Rattle.stores.specs.Store.{program, slot, stripe}
 use Rattle.stores.specs.Steps.{Step, plain, andThen}

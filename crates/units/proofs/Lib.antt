@@ -1,3 +1,4 @@
-pub mod Numbers
 pub mod Units
+pub mod Numbers
 pub mod Xors
+pub mod Updates
