@@ -1,2 +1,3 @@
 pub mod Compute
+pub mod Fresh
 pub mod Rows

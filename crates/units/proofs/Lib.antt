@@ -1,4 +1,6 @@
 pub mod Units
 pub mod Numbers
+pub mod Looks
 pub mod Xors
 pub mod Updates
+pub mod Tests

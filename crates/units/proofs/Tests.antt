@@ -1,0 +1,38 @@
+-- A conjunction of tests holds exactly where each of them does.
+use mathlib.Core.Path.{_≡_, refl}
+use mathlib.Core.Bool.{Bool, true, false, _&&_, _||_, false≢true}
+use mathlib.Core.List.{List, [], _∷_}
+
+pub and-both : (a b : Bool) → a && b ≡ true → (a ≡ true) × (b ≡ true)
+and-both true b e = (refl, e)
+and-both false b e = absurd (false≢true e)
+
+pub both-and : {a b : Bool} → a ≡ true → b ≡ true → a && b ≡ true
+both-and p q = rw (p, q)
+
+-- a && b && .., to the left as the operator nests
+abbrev pub chain : Bool → List Bool → Bool
+chain a [] = a
+chain a (b ∷ bs) = chain (a && b) bs
+
+abbrev pub AllTrue : List Bool → Type 0
+AllTrue [] = Unit
+AllTrue (b ∷ bs) = (b ≡ true) × AllTrue bs
+
+pub chain-all : (a : Bool) (bs : List Bool) → chain a bs ≡ true → (a ≡ true) × AllTrue bs
+chain-all a [] e = (e, tt)
+chain-all a (b ∷ bs) e =
+    let h = chain-all (a && b) bs e in
+    let ab = and-both a b (h .0) in
+    (ab .0, (ab .1, h .1))
+
+pub all-chain : (a : Bool) (bs : List Bool) → a ≡ true → AllTrue bs → chain a bs ≡ true
+all-chain a [] e h = e
+all-chain a (b ∷ bs) e h = all-chain (a && b) bs (both-and e (h .0)) (h .1)
+
+pub or-left : {a : Bool} (b : Bool) → a ≡ true → a || b ≡ true
+or-left b e = rw e
+
+pub or-right : (a : Bool) {b : Bool} → b ≡ true → a || b ≡ true
+or-right true e = refl
+or-right false e = e
