@@ -38,7 +38,7 @@ module _ (l : Layout) where
     pub stripe : (j : ℕ) → j < S → recordAt l (s .records) j ≡ emptyRecord l
     pub collection : collectionAt l (s .records) ≡ idle
 
-  none-fits : none l < 256 ^ D
+  pub none-fits : none l < 256 ^ D
   unfolding none
   none-fits = omega (arith, pow-positive D)
 

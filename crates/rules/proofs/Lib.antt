@@ -1,3 +1,4 @@
 pub mod Compute
+pub mod FirstWrite
 pub mod Fresh
 pub mod Rows

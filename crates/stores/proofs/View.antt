@@ -72,7 +72,7 @@ module _ (l : Layout) where
           rw (inside (programmed l c p x chips) c′ p′ h, inside chips c′ p′ h)
           (ap (pageOf l) (unit-other ((N + 1) * pages l) (pageBytes l) (c * pages l + p) (c′ * pages l + p′) (bytesOfPage l x) chips long (digits-lt chip fits) (length-page l narrow x f) other))
 
-      program-elsewhere : (c′ p′ : ℕ) → (c′ ≡ c → p′ ≢ p) → pageAt l (programmed l c p x chips) c′ p′ ≡ pageAt l chips c′ p′
+      pub program-elsewhere : (c′ p′ : ℕ) → (c′ ≡ c → p′ ≢ p) → pageAt l (programmed l c p x chips) c′ p′ ≡ pageAt l chips c′ p′
       program-elsewhere c′ p′ d = elim (decLt p′ (pages l)) [
         | yes h ↦ program-within c′ p′ h d
         | no h ↦ outside (programmed l c p x chips) c′ p′ (omega arith) ∙ sym (outside chips c′ p′ (omega arith))

@@ -36,3 +36,6 @@ or-left b e = rw e
 pub or-right : (a : Bool) {b : Bool} → b ≡ true → a || b ≡ true
 or-right true e = refl
 or-right false e = e
+
+pub or-true : (a : Bool) → a || true ≡ true
+or-true a = or-right a refl
