@@ -25,12 +25,19 @@ pub record Layout : Type 0 where
 abbrev pub layoutOf : Geometry → Layout
 layoutOf g = record { N = g .n; W = g .w; K = g .k; B = g .b; S = g .s; M = g .m; D = 2 }
 
+-- the lost chip where none is: "none (255)"
+abbrev pub noChip : ℕ
+noChip = 255
+
 module _ (l : Layout) where
   open Layout l using (N, W, K, B, S, M, D)
 
   -- "65,535 for none": the largest number of D bytes
   unfoldable pub none : ℕ
   none = 256 ^ D - 1
+
+  abbrev pub isNone : ℕ → Bool
+  isNone p = eqb p none
 
   -- the pages of a chip: "each B × K pages"
   abbrev pub pages : ℕ

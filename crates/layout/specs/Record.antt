@@ -29,6 +29,10 @@ noSlot = 255
 abbrev pub hasSlot : Record → Bool
 hasSlot r = not (eqb (r .slot) noSlot)
 
+-- of the records r, that of stripe j
+abbrev pub slotted : (ℕ → Record) → ℕ → Bool
+slotted r j = hasSlot (r j)
+
 -- the numbers f 0, f 1, .. below n, in d bytes each
 unfoldable pub row : ℕ → (ℕ → ℕ) → ℕ → List ℕ
 row d f zero = []

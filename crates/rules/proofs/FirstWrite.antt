@@ -11,14 +11,14 @@ use lib.Pow.{pow-pos}
 use lib.Seq.{take-all}
 use lib.Dec.{leb, ltb, eqb, leb·zero}
 use borrow.Author.Tests.{lt-ltb, le-ltb, le-leb, lt-leb, eq-eqb, ne-eqb, eqb-true, ltb-false}
-use Rattle.units.specs.Look.{allBelow, someBelow, countBelow, firstBelow}
+use Rattle.units.specs.Look.{whenFound}
 use Rattle.units.specs.declared.Found.the-variants.{At, Nothing}
 use Rattle.units.proofs.Looks.{by-test, all-true, some-true, some-false, count-zero, count-all, first-none, first-is}
 use Rattle.units.proofs.Tests.{or-true, chain-all}
-use Rattle.layout.specs.Layout.{Layout, none, limits, pages, pageIn, pageBytes}
+use Rattle.layout.specs.Layout.{Layout, noChip, none, isNone, limits, pages, pageIn, pageBytes}
 use Rattle.layout.specs.Rotation.{parityChip, memberChip, memberOf, stripeOf}
 use Rattle.layout.specs.Page.{Page, clean, pageOf, pageAt}
-use Rattle.layout.specs.Record.{Record, bit, emptyRecord, recordAt}
+use Rattle.layout.specs.Record.{Record, bit, slotted, emptyRecord, recordAt}
 use Rattle.layout.specs.Collection.{collectionAt, idle}
 use Rattle.layout.specs.Images.{Images, lengths, chipsLength, recordsLength, slotsLength}
 use Rattle.layout.proofs.Limits.{Within, within, limited}
@@ -29,16 +29,15 @@ use Rattle.stores.specs.Store.{program, slot, stripe, apply}
 use Rattle.stores.specs.Steps.{plain, andThen, applyAll, isCut, noCounts, counted, countedAll}
 use Rattle.stores.proofs.View.{erasedPage, length-programmed, program-elsewhere, length-slotted}
 use Rattle.rules.specs.Names.{mainNumber, sideNumber}
-use Rattle.rules.specs.Blocks.{cleanIn, cleanBlock, fullBlock, openBlock, placeOf, lowestCleanBlock}
-use Rattle.rules.specs.Sound.{isNone, memberSound, recordSound, recordsSound, soundAt, ownSlot, slotted, collectionSound, taggedStripe, inOrder, orderedBlock, chipSound, soundOrLost, sparesSound}
+use Rattle.rules.specs.Blocks.{cleanIn, cleanBlock, lowestCleanBlock}
+use Rattle.rules.specs.Place.{openBlock, placeOf, atPlace, placed}
+use Rattle.rules.specs.Sound.{memberSound, recordSound, recordsSound, soundAt, ownSlot, collectionSound, taggedStripe, inOrder, orderedBlock, chipSound, soundOrLost, sparesSound}
 use Rattle.rules.specs.declared.Check.{Check}
 use Rattle.rules.specs.declared.Check.the-variants.{Passed}
-use Rattle.rules.specs.Refusals.{noChip, formatCheck, unless, atRest, imagesCheck, recordsCheck, sparesCheck, readCheck, writeCheck}
+use Rattle.rules.specs.Refusals.{formatCheck, unless, atRest, imagesCheck, recordsCheck, sparesCheck, readCheck, writeCheck}
 use Rattle.rules.specs.declared.Refusal.the-variants.{Collection, Request, Data, ChipSet}
 use Rattle.rules.specs.declared.Reading.the-variants.{Done as ReadDone}
-use Rattle.rules.specs.Parity.{lowestFreeSlot, freeSlot, slotOf}
-use Rattle.rules.specs.Collect.{placed}
-use Rattle.rules.specs.Write.{commitOwed, owedSteps, dataPage, newPartial, newPartialReads, written, heldSteps, writeAt, writeMember, writeSteps}
+use Rattle.rules.specs.Write.{lowestFreeSlot, freeSlot, slotOf, commitOwed, owedSteps, dataPage, newPartial, newPartialReads, written, slotSteps, writeAt, writeMember, writeSteps}
 use Rattle.rules.specs.Read.{fetch, fetchMember}
 use Rattle.rules.specs.declared.Answer.the-variants.{Done, Cut}
 use Rattle.rules.specs.Calls.{Outcome, ReadOutcome, run, formatCall, writeCall, readCall}
@@ -97,7 +96,7 @@ module _ (l : Layout) (w : Within l) where
         rw (
           all-true S (soundAt l r) (λ j h. rw (f .stripe j h) empty-sound),
           all-true S (ownSlot l r) (λ j h. rw (f .stripe j h)),
-          count-zero S (slotted l r) (λ j h. rw (f .stripe j h)),
+          count-zero S (slotted r) (λ j h. rw (f .stripe j h)),
           leb·zero M,
           f .collection,
         )
@@ -195,7 +194,7 @@ module _ (l : Layout) (w : Within l) where
         no-commit-owed =
             rw (
               f .stripe (stripeOf l i) stripe-fits,
-              count-zero S (slotted l (recordAt l (s .records))) (λ j h. rw (f .stripe j h)),
+              count-zero S (slotted (recordAt l (s .records))) (λ j h. rw (f .stripe j h)),
               ne-eqb 0 M (omega (arith, w .partials-low)),
             )
 
@@ -228,7 +227,7 @@ module _ (l : Layout) (w : Within l) where
         all-true K (cleanIn l (pageAt l (s .chips) c) b) (λ i h. rw (f .page c (pageIn l b i) chip (digits-lt block h)) erased-clean)
 
     first-place : (c : ℕ) → c < N + 1 → placeOf l (pageAt l (s .chips) c) ≡ At (pageIn l 0 0)
-    unfolding placeOf openBlock lowestCleanBlock
+    unfolding placeOf openBlock lowestCleanBlock whenFound
     first-place c chip =
         rw (
           first-none B (openBlock l (pageAt l (s .chips) c)) (λ b h. rw (clean-block c chip b h)),
@@ -250,7 +249,7 @@ module _ (l : Layout) (w : Within l) where
           ∷ plain (slot 0 xs)
           ∷ plain (stripe (stripeOf l i) (written l (memberOf l i) (pageIn l 0 0) 0 (emptyRecord l)))
           ∷ []
-      unfolding writeSteps writeMember andThen applyAll apply placed writeAt heldSteps newPartial newPartialReads emptyRecord
+      unfolding writeSteps writeMember andThen applyAll apply atPlace placed whenFound writeAt slotSteps newPartial newPartialReads emptyRecord
       three-stores =
           rw (
             no-commit-owed s blank i page xs whole,

@@ -8,8 +8,8 @@ use Rattle.layout.specs.Layout.{Layout}
 use Rattle.layout.specs.Images.{Images}
 use Rattle.layout.proofs.Rows.{geometry}
 use Rattle.stores.specs.declared.Counts.{Counts}
-use Rattle.rules.specs.Parity.{costOf}
-use Rattle.rules.specs.Calls.{Outcome, ReadOutcome, status, counts, readStatus, readCounts, formatCall, writeCall, readCall}
+use Rattle.rules.specs.Commit.{costOf}
+use Rattle.rules.specs.Calls.{Outcome, ReadOutcome, statusOf, countsOf, readStatusOf, readCountsOf, formatCall, writeCall, readCall}
 use Rattle.rules.proofs.Compute.{computes}
 
 -- "cost at N = 4 for p = 1 to 4: 2, 2, 1, 0"
@@ -36,15 +36,15 @@ formatted = formatCall bench anyBytes 65535 .images
 abbrev pub filled : ℕ → List ℕ
 filled b = replicate 16 b
 
--- what the bench program prints of a write and of a read: status, then the first byte of a read, then the counts
+-- what the bench program prints of a write and of a read: statusOf, then the first byte of a read, then the counts
 abbrev pub shownCounts : Counts → List ℕ
 shownCounts n = n .reads ∷ n .programs ∷ n .erases ∷ []
 
 abbrev pub shownWrite : Outcome → List ℕ
-shownWrite x = status (x .answer) ∷ shownCounts (counts (x .answer))
+shownWrite x = statusOf (x .answer) ∷ shownCounts (countsOf (x .answer))
 
 abbrev pub shownRead : ReadOutcome → List ℕ
-shownRead x = readStatus (x .answer) ∷ getD (x .buffer) 0 0 ∷ shownCounts (readCounts (x .answer))
+shownRead x = readStatusOf (x .answer) ∷ getD (x .buffer) 0 0 ∷ shownCounts (readCountsOf (x .answer))
 
 -- a line of the bench program's input: `w` page byte, `r` page, `x` chip
 pub data Line : Type 0 where

@@ -5,14 +5,13 @@ use mathlib.Core.List.{List, [], _∷_}
 use lib.ListN.{length, replicate}
 use Rattle.units.specs.Units.{unitPut}
 use Rattle.units.specs.Update.{at}
-use Rattle.layout.specs.Layout.{Layout, pages, pageBytes}
+use Rattle.layout.specs.Layout.{Layout, noChip, pages, pageBytes}
 use Rattle.layout.specs.Images.{Images}
 use Rattle.stores.specs.declared.Counts.{Counts}
 use Rattle.rules.specs.declared.Answer.{Answer}
 use Rattle.rules.specs.declared.Answer.the-variants.{Done, Cut, Refused}
 use Rattle.rules.specs.declared.Reading.{Reading}
 use Rattle.rules.specs.declared.Reading.the-variants.{Done as ReadDone, Refused as ReadRefused}
-use Rattle.rules.specs.Refusals.{noChip}
 use Rattle.rules.specs.Calls.{Outcome, ReadOutcome, formatCall, openCall, readCall, writeCall, commitCall, collectCall}
 
 -- A call on the images of a store, with "each call's arguments but the images".

@@ -13,8 +13,9 @@ use Rattle.rules.specs.declared.Answer.the-variants.{Done, Cut, Refused}
 use Rattle.rules.specs.declared.Reading.{Reading}
 use Rattle.rules.specs.declared.Reading.the-variants.{Done as ReadDone, Refused as ReadRefused}
 use Rattle.rules.specs.Refusals.{refusalNumber, formatCheck, openCheck, readCheck, writeCheck, commitCheck, collectCheck}
-use Rattle.rules.specs.Collect.{openSteps, collectSteps}
-use Rattle.rules.specs.Parity.{commitSteps}
+use Rattle.rules.specs.Open.{openSteps}
+use Rattle.rules.specs.Collect.{collectSteps}
+use Rattle.rules.specs.Commit.{commitSteps}
 use Rattle.rules.specs.Write.{writeSteps}
 use Rattle.rules.specs.Read.{Fetched, fetch}
 use Rattle.rules.specs.Format.{formatSteps}
@@ -29,24 +30,24 @@ pub record ReadOutcome : Type 0 where
   pub buffer : List ℕ
 
 -- The number of an answer: 0 for done, 255 for cut, and a refusal's own.
-abbrev pub status : Answer → ℕ
-status (Done n) = 0
-status (Cut n) = 255
-status (Refused r) = refusalNumber r
+abbrev pub statusOf : Answer → ℕ
+statusOf (Done n) = 0
+statusOf (Cut n) = 255
+statusOf (Refused r) = refusalNumber r
 
 -- its counts; of a refusal, "counts zero"
-abbrev pub counts : Answer → Counts
-counts (Done n) = n
-counts (Cut n) = n
-counts (Refused r) = noCounts
+abbrev pub countsOf : Answer → Counts
+countsOf (Done n) = n
+countsOf (Cut n) = n
+countsOf (Refused r) = noCounts
 
-abbrev pub readStatus : Reading → ℕ
-readStatus (ReadDone n) = 0
-readStatus (ReadRefused r) = refusalNumber r
+abbrev pub readStatusOf : Reading → ℕ
+readStatusOf (ReadDone n) = 0
+readStatusOf (ReadRefused r) = refusalNumber r
 
-abbrev pub readCounts : Reading → Counts
-readCounts (ReadDone n) = n
-readCounts (ReadRefused r) = noCounts
+abbrev pub readCountsOf : Reading → Counts
+readCountsOf (ReadDone n) = n
+readCountsOf (ReadRefused r) = noCounts
 
 module _ (l : Layout) where
   -- "If the list is longer than the allowance it stops there and answers cut with the counts so far; otherwise done."

@@ -1,8 +1,11 @@
 pub mod Names
 pub mod Blocks
 pub mod Sound
+pub mod Open
 pub mod Collect
-pub mod Parity
+pub mod Place
+pub mod Gather
+pub mod Commit
 pub mod Write
 pub mod Read
 pub mod Format

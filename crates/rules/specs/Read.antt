@@ -5,13 +5,12 @@ use mathlib.Core.List.{List}
 use lib.ListN.{replicate}
 use lib.Dec.{eqb}
 use Rattle.units.specs.Xor.{_⊕_}
-use Rattle.layout.specs.Layout.{Layout, none}
+use Rattle.layout.specs.Layout.{Layout, none, isNone}
 use Rattle.layout.specs.Rotation.{parityChip, memberChip, memberOf, stripeOf}
 use Rattle.layout.specs.Page.{pageAt}
 use Rattle.layout.specs.Record.{Record, recordAt, bit}
 use Rattle.layout.specs.Images.{Images, slotAt}
-use Rattle.rules.specs.Sound.{isNone}
-use Rattle.rules.specs.Parity.{bytesAt, readsAt, gathered, gatheredReads}
+use Rattle.rules.specs.Gather.{bytesAt, readsAt, gathered, gatheredReads}
 
 -- what a page is found to hold, and the pages read for it
 pub record Fetched : Type 0 where

@@ -4,9 +4,8 @@ use mathlib.Core.Bool.{Bool, true, false, not, _||_}
 use mathlib.Core.List.{List}
 use lib.ListN.{length}
 use lib.Dec.{leb, ltb, eqb}
-use Rattle.units.specs.declared.Found.{Found}
-use Rattle.units.specs.declared.Found.the-variants.{At, Nothing}
-use Rattle.layout.specs.Layout.{Layout, limits}
+use Rattle.units.specs.Look.{whenFound}
+use Rattle.layout.specs.Layout.{Layout, noChip, limits}
 use Rattle.layout.specs.Page.{pageAt}
 use Rattle.layout.specs.Record.{recordAt, hasSlot}
 use Rattle.layout.specs.Collection.{collectionAt}
@@ -15,7 +14,7 @@ use Rattle.rules.specs.declared.Refusal.{Refusal}
 use Rattle.rules.specs.declared.Refusal.the-variants.{Geometry, Buffers, LostChip, Records, Spares, Collection, Request, Data, ChipSet, Work}
 use Rattle.rules.specs.declared.Check.{Check}
 use Rattle.rules.specs.declared.Check.the-variants.{Passed, Failed}
-use Rattle.rules.specs.Blocks.{victimOf}
+use Rattle.rules.specs.Collect.{victimOf}
 use Rattle.rules.specs.Sound.{recordsSound, sparesSound}
 
 -- the column "No."
@@ -36,20 +35,12 @@ abbrev pub unless : Bool → Refusal → Check → Check
 unless true r below = below
 unless false r below = Failed r
 
--- "none (255)"
-abbrev pub noChip : ℕ
-noChip = 255
-
-abbrev pub isFound : Found → Bool
-isFound (At i) = true
-isFound Nothing = false
-
 module _ (l : Layout) where
   open Layout l using (N, W, S)
 
   -- "neither none (255) nor 0 to N"
-  abbrev pub chipNamed : ℕ → Bool
-  chipNamed lost = eqb lost noChip || leb lost N
+  abbrev pub lostNamed : ℕ → Bool
+  lostNamed lost = eqb lost noChip || leb lost N
 
   abbrev pub recordsCheck : Images → Bool
   recordsCheck s = recordsSound l (recordAt l (s .records)) (collectionAt l (s .records))
@@ -71,7 +62,7 @@ module _ (l : Layout) where
   imagesCheck s lost below =
       unless (limits l) Geometry
       (unless (lengths l s) Buffers
-      (unless (chipNamed lost) LostChip
+      (unless (lostNamed lost) LostChip
       (unless (recordsCheck s) Records
       (unless (sparesCheck s lost) Spares below))))
 
@@ -106,4 +97,4 @@ module _ (l : Layout) where
       (unless (atRest s) Collection
       (unless (leb c N) Request
       (unless (eqb lost noChip) ChipSet
-      (unless (isFound (victimOf l (recordAt l (s .records)) c (pageAt l (s .chips) c))) Work Passed))))
+      (unless (whenFound (victimOf l c (pageAt l (s .chips) c) (recordAt l (s .records))) (λ b. true) false) Work Passed))))

@@ -3,9 +3,9 @@ use Prim.Native.Nat.{ℕ, _+_, _-_, _*_, _^_}
 use mathlib.Core.Bool.{Bool, not, cond, _&&_, _||_}
 use lib.Dec.{leb, ltb, eqb}
 use Rattle.units.specs.Look.{allBelow, someBelow, countBelow}
-use Rattle.layout.specs.Layout.{Layout, none, pages, pageIn}
+use Rattle.layout.specs.Layout.{Layout, isNone, pages, pageIn}
 use Rattle.layout.specs.Page.{Page}
-use Rattle.layout.specs.Record.{Record, bit, noSlot, hasSlot}
+use Rattle.layout.specs.Record.{Record, bit, noSlot, slotted}
 use Rattle.layout.specs.Collection.{Collection}
 use Rattle.rules.specs.Names.{mainNumber, sideNumber, kindOn, memberTag, named, unnamed}
 use Rattle.rules.specs.Blocks.{cleanIn, cleanBlock, namedIn, unnamedIn}
@@ -13,29 +13,26 @@ use Rattle.rules.specs.Blocks.{cleanIn, cleanBlock, namedIn, unnamedIn}
 module _ (l : Layout) where
   open Layout l using (N, K, B, S, M)
 
-  abbrev pub isNone : ℕ → Bool
-  isNone p = eqb p (none l)
-
   -- "page numbers are none or below B × K"
   abbrev pub pageNumber : ℕ → Bool
-  pageNumber p = isNone p || ltb p (pages l)
+  pageNumber p = isNone l p || ltb p (pages l)
 
   -- "and none for members N and above"
   abbrev pub onlyMembers : Record → ℕ → Bool
-  onlyMembers r m = ltb m N || (isNone (r .current m) && isNone (r .old m))
+  onlyMembers r m = ltb m N || (isNone l (r .current m) && isNone l (r .old m))
 
   -- "an old number only where the bit is set"
   abbrev pub oldUnderBit : Record → ℕ → Bool
-  oldUnderBit r m = isNone (r .old m) || bit r m
+  oldUnderBit r m = isNone l (r .old m) || bit r m
 
   -- "a set bit has a current number, different from the old one"
   abbrev pub currentUnderBit : Record → ℕ → Bool
-  currentUnderBit r m = not (bit r m) || (not (isNone (r .current m)) && not (eqb (r .current m) (r .old m)))
+  currentUnderBit r m = not (bit r m) || (not (isNone l (r .current m)) && not (eqb (r .current m) (r .old m)))
 
   -- "an old number, or a current one with its bit clear, needs a parity page"
   abbrev pub parityUnder : Record → ℕ → Bool
   parityUnder r m =
-      (isNone (r .old m) && (isNone (r .current m) || bit r m)) || not (isNone (r .parity))
+      (isNone l (r .old m) && (isNone l (r .current m) || bit r m)) || not (isNone l (r .parity))
 
   unfoldable pub memberSound : Record → ℕ → Bool
   memberSound r m =
@@ -79,22 +76,19 @@ module _ (l : Layout) where
     abbrev pub soundAt : ℕ → Bool
     soundAt j = recordSound (r j)
 
-    abbrev pub slotted : ℕ → Bool
-    slotted j = hasSlot (r j)
-
     abbrev pub sameSlot : ℕ → ℕ → Bool
     sameSlot j i = eqb (r i .slot) (r j .slot)
 
     -- "no slot in two records": none before j has its slot
     abbrev pub ownSlot : ℕ → Bool
-    ownSlot j = not (slotted j) || not (someBelow j (sameSlot j))
+    ownSlot j = not (slotted r j) || not (someBelow j (sameSlot j))
 
     -- "Records"; "at most M records with a slot"
     unfoldable pub recordsSound : Collection → Bool
     recordsSound co =
         allBelow S soundAt
         && allBelow S ownSlot
-        && leb (countBelow S slotted) M
+        && leb (countBelow S (slotted r)) M
         && collectionSound co
 
     -- x gives the pages of chip c
@@ -105,7 +99,7 @@ module _ (l : Layout) where
           eqb (x p .stripe) j && eqb (x p .kind) (kindOn l c j) && eqb (x p .member) (memberTag l c j)
 
       abbrev pub taggedNumber : ℕ → ℕ → Bool
-      taggedNumber j p = isNone p || taggedPage j p
+      taggedNumber j p = isNone l p || taggedPage j p
 
       unfoldable pub taggedStripe : ℕ → Bool
       taggedStripe j = taggedNumber j (mainNumber l c j (r j)) && taggedNumber j (sideNumber l c j (r j))

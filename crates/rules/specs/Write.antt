@@ -1,43 +1,51 @@
 -- Document 01, "Write" member m of stripe j.
-use Prim.Native.Nat.{ℕ, _^_}
+use Prim.Native.Nat.{ℕ, _+_, _^_}
 use mathlib.Core.Bool.{Bool, not, cond, _&&_}
 use mathlib.Core.List.{List, [], _∷_}
 use lib.Dec.{eqb}
 use lib.Bits.{bitOr}
 use Rattle.units.specs.declared.Found.{Found}
-use Rattle.units.specs.declared.Found.the-variants.{At, Nothing}
-use Rattle.units.specs.Look.{countBelow}
+use Rattle.units.specs.Look.{someBelow, countBelow, firstBelow, whenFound}
 use Rattle.units.specs.Update.{at}
 use Rattle.units.specs.Xor.{_⊕_}
 use Rattle.layout.specs.Layout.{Layout, none}
 use Rattle.layout.specs.Rotation.{memberChip, memberOf, stripeOf}
 use Rattle.layout.specs.Page.{Page, pageAt, dataKind}
-use Rattle.layout.specs.Record.{Record, recordAt, bit, hasSlot}
+use Rattle.layout.specs.Record.{Record, recordAt, bit, hasSlot, slotted}
 use Rattle.layout.specs.Images.{Images, slotAt}
 use Rattle.stores.specs.Store.{program, slot, stripe}
 use Rattle.stores.specs.Steps.{Step, plain, andThen}
-use Rattle.rules.specs.Sound.{slotted}
-use Rattle.rules.specs.Collect.{placed}
-use Rattle.rules.specs.Parity.{bytesAt, readsAt, cheapest, lowestFreeSlot, commitSteps}
+use Rattle.rules.specs.Place.{placed}
+use Rattle.rules.specs.Gather.{bytesAt, readsAt}
+use Rattle.rules.specs.Commit.{cheapest, commitSteps}
 
 module _ (l : Layout) where
   open Layout l using (S, M)
 
   -- "if j has no slot and M records have"
   unfoldable pub commitOwed : (ℕ → Record) → ℕ → Bool
-  commitOwed r j = not (hasSlot (r j)) && eqb (countBelow S (slotted l r)) M
-
-  abbrev pub commitFound : Found → Images → List Step
-  commitFound (At j) s = commitSteps l j s
-  commitFound Nothing s = []
+  commitOwed r j = not (hasSlot (r j)) && eqb (countBelow S (slotted r)) M
 
   -- "commit the stripe of least cost, lowest number on ties"
   unfoldable pub owedSteps : ℕ → Images → List Step
   owedSteps j s =
-      cond (commitOwed (recordAt l (s .records)) j) (commitFound (cheapest l (recordAt l (s .records))) s) []
+      cond (commitOwed (recordAt l (s .records)) j)
+      (whenFound (cheapest l (recordAt l (s .records))) (λ k. commitSteps l k s) [])
+      []
 
   abbrev pub dataPage : ℕ → ℕ → List ℕ → Page
   dataPage j m xs = record { bytes = xs; kind = dataKind; member = m; stripe = j; copied = none l }
+
+  -- record j has slot i
+  abbrev pub slotOf : (ℕ → Record) → ℕ → ℕ → Bool
+  slotOf r i j = eqb (r j .slot) i
+
+  abbrev pub freeSlot : (ℕ → Record) → ℕ → Bool
+  freeSlot r i = not (someBelow S (slotOf r i))
+
+  -- "the lowest free slot"
+  unfoldable pub lowestFreeSlot : (ℕ → Record) → Found
+  lowestFreeSlot r = firstBelow (M + 1) (freeSlot r)
 
   -- "the new partial parity: the data; or partial ⊕ data; or, if bit m was set, partial ⊕ current page ⊕ data"
   unfoldable pub newPartial : Images → ℕ → ℕ → List ℕ → Record → List ℕ
@@ -64,23 +72,24 @@ module _ (l : Layout) where
         rest = 0;
       }
 
-  -- the slot and the record of a page that stands at p
-  abbrev pub holdSteps : ℕ → ℕ → ℕ → List ℕ → Images → Record → Found → List Step
-  holdSteps j m p xs s r (At i) =
+  -- the stores of slot i and of record j, which is r, for a page that stands at p
+  abbrev pub slotStores : ℕ → ℕ → List ℕ → ℕ → Images → Record → ℕ → List Step
+  slotStores j m xs p s r i =
       record { reads = newPartialReads m r; store = slot i (newPartial s j m xs r) }
       ∷ plain (stripe j (written m p i r))
       ∷ []
-  holdSteps j m p xs s r Nothing = []
 
-  unfoldable pub heldSteps : ℕ → ℕ → ℕ → List ℕ → Images → List Step
-  heldSteps j m p xs s =
-      holdSteps j m p xs s (recordAt l (s .records) j) (lowestFreeSlot l (recordAt l (s .records)))
+  -- "Store into the lowest free slot the new partial parity. Store record j."
+  unfoldable pub slotSteps : ℕ → ℕ → List ℕ → ℕ → Images → List Step
+  slotSteps j m xs p s =
+      whenFound (lowestFreeSlot (recordAt l (s .records))) (slotStores j m xs p s (recordAt l (s .records) j)) []
 
-  -- "Find a place, program it. Store into the lowest free slot the new partial parity. Store record j."
+  -- at the place p: "program it", then the slot and the record
   unfoldable pub writeAt : ℕ → ℕ → List ℕ → ℕ → Images → List Step
   writeAt j m xs p s =
-      andThen l (plain (program (memberChip l j m) p (dataPage j m xs)) ∷ []) (heldSteps j m p xs) s
+      andThen l (plain (program (memberChip l j m) p (dataPage j m xs)) ∷ []) (slotSteps j m xs p) s
 
+  -- "if .., commit ..; Find a place"
   unfoldable pub writeMember : ℕ → ℕ → List ℕ → Images → List Step
   writeMember j m xs s = andThen l (owedSteps j s) (placed l (memberChip l j m) (writeAt j m xs)) s
 

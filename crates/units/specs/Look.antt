@@ -26,6 +26,11 @@ abbrev pub orElse : Found → Found → Found
 orElse (At i) next = At i
 orElse Nothing next = next
 
+-- what f makes of the number found, or else the other
+unfoldable pub whenFound : {A : Type 0} → Found → (ℕ → A) → A → A
+whenFound (At i) f other = f i
+whenFound Nothing f other = other
+
 -- the lowest number below n that passes f
 unfoldable pub firstBelow : ℕ → (ℕ → Bool) → Found
 firstBelow zero f = Nothing

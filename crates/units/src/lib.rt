@@ -2,6 +2,6 @@
 
 // What a search answers.
 pub enum Found {
-    At(u64),
+    At(usize),
     Nothing,
 }

@@ -1,0 +1,42 @@
+-- Document 01, "Place on a chip".
+use Prim.Native.Nat.{ℕ}
+use mathlib.Core.Bool.{Bool, not, cond, _&&_}
+use mathlib.Core.List.{List, []}
+use lib.Dec.{leb}
+use Rattle.units.specs.declared.Found.{Found}
+use Rattle.units.specs.declared.Found.the-variants.{At, Nothing}
+use Rattle.units.specs.Look.{countBelow, firstBelow, orElse, whenFound}
+use Rattle.layout.specs.Layout.{Layout, pageIn}
+use Rattle.layout.specs.Page.{Page, pageAt}
+use Rattle.layout.specs.Images.{Images}
+use Rattle.stores.specs.Steps.{Step, andThen}
+use Rattle.rules.specs.Blocks.{cleanIn, cleanBlock, fullBlock, lowestCleanBlock}
+use Rattle.rules.specs.Collect.{collectSteps}
+
+module _ (l : Layout) where
+  open Layout l using (K, B)
+
+  -- "a block already begun", with a clean page
+  unfoldable pub openBlock : (ℕ → Page) → ℕ → Bool
+  openBlock x b = not (cleanBlock l x b) && not (fullBlock l x b)
+
+  -- the lowest clean page of block b
+  unfoldable pub lowestCleanPage : (ℕ → Page) → ℕ → Found
+  lowestCleanPage x b = whenFound (firstBelow K (cleanIn l x b)) (λ i. At (pageIn l b i)) Nothing
+
+  -- "the lowest clean page, block by block and page by page, in a block already begun;
+  -- else page 0 of the lowest clean block if two or more blocks are clean"
+  unfoldable pub placeOf : (ℕ → Page) → Found
+  placeOf x =
+      orElse (whenFound (firstBelow B (openBlock x)) (lowestCleanPage x) Nothing)
+      (cond (leb 2 (countBelow B (cleanBlock l x)))
+      (whenFound (lowestCleanBlock l x) (λ b. At (pageIn l b 0)) Nothing)
+      Nothing)
+
+  -- what f does at the place on chip c, or else the other
+  unfoldable pub atPlace : ℕ → (ℕ → Images → List Step) → List Step → Images → List Step
+  atPlace c f other s = whenFound (placeOf (pageAt l (s .chips) c)) (λ p. f p s) other
+
+  -- "else collect, then look again"
+  unfoldable pub placed : ℕ → (ℕ → Images → List Step) → Images → List Step
+  placed c f s = atPlace c f (andThen l (collectSteps l c s) (atPlace c f []) s) s
