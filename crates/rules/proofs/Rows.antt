@@ -1,9 +1,11 @@
 -- The worked examples of document 01 on costs and on the first write, and its bench transcript.
-use Prim.Native.Nat.{ℕ}
+use Prim.Native.Nat.{ℕ, _<_}
 use mathlib.Core.Path.{_≡_, refl}
 use mathlib.Core.List.{List, [], _∷_}
 use lib.ListN.{replicate, length, getD}
+use lib.Dec.{lit≤}
 use Rattle.units.specs.Rows.{Rows}
+use Rattle.units.proofs.Tests.{same-rows}
 use Rattle.layout.specs.Layout.{Layout}
 use Rattle.layout.specs.Images.{Images}
 use Rattle.layout.proofs.Rows.{geometry}
@@ -11,6 +13,7 @@ use Rattle.stores.specs.declared.Counts.{Counts}
 use Rattle.rules.specs.Commit.{costOf}
 use Rattle.rules.specs.Calls.{Outcome, ReadOutcome, statusOf, countsOf, readStatusOf, readCountsOf, formatCall, writeCall, readCall}
 use Rattle.rules.proofs.Compute.{computes}
+use Rattle.rules.proofs.FirstWrite.{FirstWrite, first-write}
 
 -- "cost at N = 4 for p = 1 to 4: 2, 2, 1, 0"
 pub costs-at-four : Rows (costOf (geometry 4 16 4 4 6 2)) ((1, 2) ∷ (2, 2) ∷ (3, 1) ∷ (4, 0) ∷ [])
@@ -35,6 +38,11 @@ formatted = formatCall bench anyBytes 65535 .images
 
 abbrev pub filled : ℕ → List ℕ
 filled b = replicate 16 b
+
+-- "a first write takes 3 stores. Allowance 2 is cut and reads zeros; 3 is done": of each page of the bench geometry
+pub bench-first-write : (i : ℕ) → i < 24 → (xs : List ℕ) → length xs ≡ 16 → FirstWrite bench formatted i xs
+unfolding computes
+bench-first-write = first-write bench (lit≤ tt) (lit≤ tt) anyBytes 65535 refl
 
 -- what the bench program prints of a write and of a read: statusOf, then the first byte of a read, then the counts
 abbrev pub shownCounts : Counts → List ℕ
@@ -70,4 +78,4 @@ pub bench-transcript :
     ∷ (9 ∷ 0 ∷ 0 ∷ 0 ∷ [])
     ∷ []
 unfolding computes said
-bench-transcript = refl
+bench-transcript = same-rows _ _ refl

@@ -1,5 +1,8 @@
--- A conjunction of tests holds exactly where each of them does.
-use mathlib.Core.Path.{_≡_, refl}
+-- A conjunction of tests holds exactly where each of them does; lists are equal where a test says so.
+use Prim.Native.Nat.{ℕ}
+use mathlib.Core.Path.{_≡_, refl, ap₂}
+use lib.Dec.{eqb}
+use borrow.Author.Tests.{eqb-true}
 use mathlib.Core.Bool.{Bool, true, false, _&&_, _||_, false≢true}
 use mathlib.Core.List.{List, [], _∷_}
 
@@ -39,3 +42,22 @@ or-right false e = e
 
 pub or-true : (a : Bool) → a || true ≡ true
 or-true a = or-right a refl
+
+-- two lists are equal, by a test of their elements: so a computed row that is wrong fails at once
+module _ {A : Type 0} (same : A → A → Bool) where
+  abbrev pub sameList : List A → List A → Bool
+  sameList [] [] = true
+  sameList [] (y ∷ ys) = false
+  sameList (x ∷ xs) [] = false
+  sameList (x ∷ xs) (y ∷ ys) = same x y && sameList xs ys
+
+  pub same-list : ((x y : A) → same x y ≡ true → x ≡ y) → (xs ys : List A) → sameList xs ys ≡ true → xs ≡ ys
+  same-list h [] [] e = refl
+  same-list h [] (y ∷ ys) e = absurd (false≢true e)
+  same-list h (x ∷ xs) [] e = absurd (false≢true e)
+  same-list h (x ∷ xs) (y ∷ ys) e =
+      let b = and-both (same x y) (sameList xs ys) e in
+      ap₂ {C = List A} (λ a as′. a ∷ as′) (h x y (b .0)) (same-list h xs ys (b .1))
+
+pub same-rows : (xs ys : List (List ℕ)) → sameList (sameList eqb) xs ys ≡ true → xs ≡ ys
+same-rows = same-list (sameList eqb) (same-list eqb eqb-true)
