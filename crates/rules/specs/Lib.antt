@@ -12,3 +12,4 @@ pub mod Format
 pub mod Refusals
 pub mod Calls
 pub mod Book
+pub mod Demand
