@@ -1,8 +1,8 @@
 -- The worked examples of document 01 on rotation and limits, and the fixed byte string of the empty record.
 use Prim.Native.Nat.{ℕ}
 use mathlib.Core.Path.{_≡_, refl}
-use mathlib.Core.Bool.{Bool, true, false}
-use mathlib.Core.List.{List, [], _∷_, _++_}
+use mathlib.Core.Bool.{true, false}
+use mathlib.Core.List.{[], _∷_, _++_}
 use lib.ListN.{replicate}
 use Rattle.units.specs.Number.{digits}
 use Rattle.units.specs.Rows.{Rows}

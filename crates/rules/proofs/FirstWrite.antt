@@ -1,23 +1,23 @@
 -- "A first write takes 3 stores. Allowance 2 is cut and reads zeros; 3 is done." In every geometry.
-use Prim.Native.Nat.{ℕ, zero, suc, _+_, _-_, _*_, _^_, _/_, _%_, _≤_, _<_}
-use native.Mathlib.Nat.{zero-mul, suc-mul, not-suc-le-zero, div-lt-iff-lt-mul, mul-comm, mul-one, mod-lt, mul-le-mul-left}
+use Prim.Native.Nat.{ℕ, _+_, _-_, _*_, _^_, _≤_, _<_}
+use native.Mathlib.Nat.{zero-mul, not-suc-le-zero, div-lt-iff-lt-mul, mul-comm, mul-one, mod-lt, mul-le-mul-left}
 use native.Mathlib.Omega.{arith}
-use mathlib.Core.Path.{_≡_, refl, sym, ap, _∙_}
-use mathlib.Core.Bool.{Bool, true, false, not, cond, _&&_, _||_}
-use mathlib.Core.List.{List, [], _∷_, _++_}
+use mathlib.Core.Path.{_≡_, refl, ap, _∙_}
+use mathlib.Core.Bool.{Bool, true, false, not, cond}
+use mathlib.Core.List.{List, [], _∷_}
 use lib.ListN.{length, replicate, getD-replicate}
 use lib.Arith.{digits-lt}
 use lib.Pow.{pow-pos}
 use lib.Seq.{take-all}
-use lib.Dec.{leb, ltb, eqb, leb·zero}
-use borrow.Author.Tests.{lt-ltb, le-ltb, le-leb, lt-leb, eq-eqb, ne-eqb, eqb-true, ltb-false}
+use lib.Dec.{ltb, eqb, leb·zero}
+use borrow.Author.Tests.{lt-ltb, le-leb, eq-eqb, ne-eqb, eqb-true, ltb-false}
 use Rattle.units.specs.Look.{whenFound}
-use Rattle.units.specs.declared.Found.the-variants.{At, Nothing}
+use Rattle.units.specs.declared.Found.the-variants.{At}
 use Rattle.units.proofs.Looks.{by-test, all-true, some-true, some-false, count-zero, count-all, first-none, first-is}
 use Rattle.units.proofs.Tests.{or-true, chain-all}
 use Rattle.layout.specs.Layout.{Layout, noChip, none, isNone, limits, pages, pageIn, pageBytes}
 use Rattle.layout.specs.Rotation.{parityChip, memberChip, memberOf, stripeOf}
-use Rattle.layout.specs.Page.{Page, clean, pageOf, pageAt}
+use Rattle.layout.specs.Page.{clean, pageOf, pageAt}
 use Rattle.layout.specs.Record.{Record, bit, slotted, emptyRecord, recordAt}
 use Rattle.layout.specs.Collection.{collectionAt, idle}
 use Rattle.layout.specs.Images.{Images, lengths, chipsLength, recordsLength, slotsLength}
@@ -42,7 +42,7 @@ use Rattle.rules.specs.Read.{fetch, fetchMember}
 use Rattle.rules.specs.declared.Answer.the-variants.{Done, Cut}
 use Rattle.rules.specs.Calls.{Outcome, ReadOutcome, run, formatCall, writeCall, readCall}
 use Rattle.rules.specs.Format.{formatSteps}
-use Rattle.rules.specs.Book.{Verdict, verdict, done, cut, refused}
+use Rattle.rules.specs.Book.{verdict, done, cut, refused}
 use Rattle.rules.proofs.Fresh.{Fresh, formatted, none-fits}
 
 cond-same : (b : Bool) (x : ℕ) → cond b x x ≡ x

@@ -1,27 +1,23 @@
 -- The images as a finished format left them: every page erased, every record empty, no collection.
-use Prim.Native.Nat.{ℕ, zero, suc, _+_, _-_, _*_, _^_, _≤_, _<_}
+use Prim.Native.Nat.{ℕ, suc, _+_, _-_, _*_, _^_, _≤_, _<_}
 use native.Mathlib.Nat.{zero-mul, suc-mul, not-suc-le-zero}
 use native.Mathlib.Decide.{decLt}
-use native.Mathlib.Numerals.{add-one}
 use native.Mathlib.Omega.{arith}
-use mathlib.Core.Path.{_≡_, refl, sym, ap, _∙_}
-use mathlib.Core.Bool.{Bool, true, false, cond}
-use mathlib.Core.List.{List, [], _∷_, _++_}
+use mathlib.Core.Path.{_≡_, refl, ap, _∙_}
+use mathlib.Core.List.{[], _∷_, _++_}
 use lib.ListN.{length}
-use lib.Dec.{leb, ltb}
-use borrow.Author.Tests.{lt-ltb, le-ltb, le-leb, lt-leb, eqb-true}
+use borrow.Author.Tests.{lt-ltb, le-leb, lt-leb}
 use Rattle.units.specs.Update.{at}
 use Rattle.units.proofs.Looks.{at-last}
 use Rattle.units.proofs.Numbers.{pow-positive}
-use Rattle.units.proofs.Tests.{chain-all}
 use Rattle.units.proofs.Updates.{at-same, at-other}
-use Rattle.layout.specs.Layout.{Layout, none, pages, inBlock, recordBytes}
+use Rattle.layout.specs.Layout.{Layout, none, pages, recordBytes}
 use Rattle.layout.specs.Page.{Page, pageAt}
-use Rattle.layout.specs.Record.{Record, emptyRecord, recordAt, restBytes, bytesOfRecord}
-use Rattle.layout.specs.Collection.{Collection, collectionAt, idle, bytesOfCollection}
-use Rattle.layout.specs.Images.{Images, chipsLength, recordsLength, slotsLength, lengths}
+use Rattle.layout.specs.Record.{emptyRecord, recordAt, restBytes, bytesOfRecord}
+use Rattle.layout.specs.Collection.{collectionAt, idle, bytesOfCollection}
+use Rattle.layout.specs.Images.{Images, chipsLength, recordsLength, slotsLength}
 use Rattle.layout.proofs.Codec.{RecordFits, CollectionFits, length-record, length-collection}
-use Rattle.stores.specs.Store.{apply, erase, erased, collection}
+use Rattle.stores.specs.Store.{apply, collection}
 use Rattle.stores.specs.Steps.{plain, applyAll, stepsBelow}
 use Rattle.stores.proofs.Runs.{apply-append, below-carries}
 use Rattle.stores.proofs.View.{erasedPage, wiped, page-erased, length-erased, length-recorded, record-stored, collection-stored, records-stay}

@@ -13,7 +13,7 @@ use Rattle.rules.specs.declared.Check.the-variants.{Passed}
 use Rattle.rules.specs.declared.Answer.the-variants.{Refused}
 use Rattle.rules.specs.declared.Reading.the-variants.{Refused as ReadRefused}
 use Rattle.rules.specs.Refusals.{refusalNumber, formatCheck, imagesCheck, openCheck, readCheck, writeCheck, commitCheck, collectCheck}
-use Rattle.rules.specs.Calls.{Outcome, ReadOutcome, formatCall, openCall, readCall, writeCall, commitCall, collectCall}
+use Rattle.rules.specs.Calls.{formatCall, openCall, readCall, writeCall, commitCall, collectCall}
 
 module _ (l : Layout) where
   -- every call is refused with r, and changes nothing

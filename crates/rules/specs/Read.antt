@@ -1,6 +1,6 @@
 -- Document 01, "Read".
 use Prim.Native.Nat.{ℕ, _+_}
-use mathlib.Core.Bool.{cond, _||_, _&&_, not}
+use mathlib.Core.Bool.{cond, _&&_, not}
 use mathlib.Core.List.{List}
 use lib.ListN.{replicate}
 use lib.Dec.{eqb}

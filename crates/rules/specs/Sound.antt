@@ -1,5 +1,5 @@
 -- Document 01, "Sound images".
-use Prim.Native.Nat.{ℕ, _+_, _-_, _*_, _^_}
+use Prim.Native.Nat.{ℕ, _+_, _-_, _^_}
 use mathlib.Core.Bool.{Bool, not, cond, _&&_, _||_}
 use lib.Dec.{leb, ltb, eqb}
 use Rattle.units.specs.Look.{allBelow, someBelow, countBelow}
@@ -7,7 +7,7 @@ use Rattle.layout.specs.Layout.{Layout, isNone, pages, pageIn}
 use Rattle.layout.specs.Page.{Page}
 use Rattle.layout.specs.Record.{Record, bit, noSlot, slotted}
 use Rattle.layout.specs.Collection.{Collection}
-use Rattle.rules.specs.Names.{mainNumber, sideNumber, kindOn, memberTag, named, unnamed}
+use Rattle.rules.specs.Names.{mainNumber, sideNumber, kindOn, memberTag, unnamed}
 use Rattle.rules.specs.Blocks.{cleanIn, cleanBlock, namedIn, unnamedIn}
 
 module _ (l : Layout) where

@@ -1,25 +1,23 @@
 -- The view after a store is the view, updated at one place. Only here do offsets matter.
-use Prim.Native.Nat.{ℕ, zero, suc, _+_, _-_, _*_, _^_, _/_, _%_, _≤_, _<_}
-use native.Mathlib.Nat.{add-mul, mul-comm}
-use native.Mathlib.Decide.{decLt, decLe, ℕ-discrete}
+use Prim.Native.Nat.{ℕ, _+_, _*_, _/_, _%_, _≤_, _<_}
+use native.Mathlib.Decide.{decLt}
 use native.Mathlib.Omega.{arith}
-use mathlib.Core.Path.{_≡_, refl, sym, ap, _∙_, fun-ext}
+use mathlib.Core.Path.{_≡_, sym, ap, _∙_, fun-ext}
 use mathlib.Core.Logic.{_≢_}
-use mathlib.Core.Bool.{Bool, true, false, cond, _&&_}
-use mathlib.Core.List.{List, [], _∷_, _++_}
+use mathlib.Core.Bool.{cond}
+use mathlib.Core.List.{List, []}
 use lib.ListN.{length, replicate, length-replicate}
 use lib.Arith.{digits-lt, digits-div, digits-mod}
-use lib.Dec.{leb, ltb}
 use borrow.Author.Tests.{lt-ltb, le-ltb, le-leb, lt-leb}
 use Rattle.units.specs.Units.{unit, unitPut}
 use Rattle.units.specs.Update.{at}
 use Rattle.units.proofs.Units.{apart, unit-same, unit-other, length-unitPut, length-put-units, unit-fill-in, unit-fill-before, unit-fill-after}
-use Rattle.units.proofs.Updates.{at-same, at-other, at-unique}
+use Rattle.units.proofs.Updates.{at-unique}
 use Rattle.layout.specs.Layout.{Layout, pages, inBlock, pageBytes, recordBytes}
 use Rattle.layout.specs.Page.{Page, pageOf, bytesOfPage, pageAt}
 use Rattle.layout.specs.Record.{Record, recordOf, bytesOfRecord, recordAt}
 use Rattle.layout.specs.Collection.{Collection, collectionOf, bytesOfCollection, collectionAt}
-use Rattle.layout.specs.Images.{Images, chipsLength, recordsLength, slotsLength, slotAt}
+use Rattle.layout.specs.Images.{chipsLength, recordsLength, slotsLength, slotAt}
 use Rattle.layout.proofs.Codec.{PageFits, length-page, page-decodes, RecordFits, length-record, record-decodes, CollectionFits, length-collection, collection-decodes}
 use Rattle.stores.specs.Store.{programmed, erased, recorded}
 

@@ -1,5 +1,4 @@
 -- Worked examples: a function held against a table of arguments and values.
-use Prim.Native.Nat.{ℕ}
 use mathlib.Core.Path.{_≡_}
 use mathlib.Core.List.{List, [], _∷_}
 
