@@ -22,6 +22,7 @@ idle = record { phase = 0; chip = 0; victim = 0; destination = 0; rest = 0 }
 module _ (l : Layout) where
   open Layout l using (S)
 
+  -- the collection record that 32 bytes hold
   unfoldable pub collectionOf : List ℕ → Collection
   collectionOf xs =
       record {
@@ -32,6 +33,7 @@ module _ (l : Layout) where
         rest = number (part 6 (recordBytes l - 6) xs);
       }
 
+  -- the bytes of one that is stored
   unfoldable pub bytesOfCollection : Collection → List ℕ
   bytesOfCollection co =
       co .phase

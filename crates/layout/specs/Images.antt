@@ -27,12 +27,13 @@ module _ (l : Layout) where
   unfoldable pub slotsLength : ℕ
   slotsLength = (M + 1) * W
 
-  -- each image has its length
+  -- each image has its length: row 2 of the table, "an image has another length"
   unfoldable pub lengths : Images → Bool
   lengths s =
       eqb (length (s .chips)) chipsLength
       && eqb (length (s .records)) recordsLength
       && eqb (length (s .slots)) slotsLength
 
+  -- slot i
   unfoldable pub slotAt : List ℕ → ℕ → List ℕ
   slotAt slots i = unit W i slots

@@ -18,7 +18,7 @@ pub record Layout : Type 0 where
   pub S : ℕ
   -- "M partial parities"
   pub M : ℕ
-  -- bytes of a page number: "2 bytes each"
+  -- the bytes of a page number: "(2 bytes each, 65,535 for none)"
   pub D : ℕ
 
 -- page numbers of two bytes
@@ -59,9 +59,9 @@ module _ (l : Layout) where
   abbrev pub recordBytes : ℕ
   recordBytes = 16 * D
 
-  -- the limits, in the paper's order
+  -- "N .., 2 to 6"; "W .., 16 to 4,096, a multiple of 16"; "K .., 2 to 128"; "B .., 2 to 1,024"; "B × K at most 65,535";
+  -- "S .., 1 to 65,535"; "M .., 1 to 254"; "S + M + 1 at most (B − 1) × K"
   unfoldable pub limits : Bool
-  unfolding none
   limits =
       leb 2 N && leb N 6
       && leb 16 W && leb W 4096 && eqb (W % 16) 0

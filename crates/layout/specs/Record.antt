@@ -49,6 +49,7 @@ module _ (l : Layout) where
   unfoldable pub sixFrom : ℕ → List ℕ → ℕ → ℕ
   sixFrom from xs m = cond (ltb m 6) (number (part ((from + m) * D) D xs)) (none l)
 
+  -- the record that 32 bytes hold
   unfoldable pub recordOf : List ℕ → Record
   recordOf xs =
       record {
@@ -60,6 +61,7 @@ module _ (l : Layout) where
         rest = number (part (13 * D + 2) restBytes xs);
       }
 
+  -- the bytes of a record that is stored
   unfoldable pub bytesOfRecord : Record → List ℕ
   bytesOfRecord r =
       row D (r .current) 6

@@ -34,6 +34,7 @@ module _ (l : Layout) where
   erased c b chips =
       put ((c * pages l + b * K) * pageBytes l) (K * pageBytes l) (replicate (K * pageBytes l) 255) chips
 
+  -- record j of the S + 1 becomes xs
   unfoldable pub recorded : ℕ → List ℕ → List ℕ → List ℕ
   recorded j xs records = unitPut (recordBytes l) j xs records
 
