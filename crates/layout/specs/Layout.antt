@@ -55,6 +55,10 @@ module _ (l : Layout) where
   abbrev pub pageBytes : ℕ
   pageBytes = W + 8
 
+  -- "its own stretch of the chip image": the bytes of a chip
+  abbrev pub chipBytes : ℕ
+  chipBytes = pages * pageBytes
+
   -- "records of 32 bytes"
   abbrev pub recordBytes : ℕ
   recordBytes = 16 * D

@@ -1,12 +1,12 @@
 -- Document 01, "Chips": a page, its data and its spare bytes.
-use Prim.Native.Nat.{ℕ, _+_, _-_, _*_}
-use mathlib.Core.Bool.{Bool, cond}
-use mathlib.Core.List.{List, [], _∷_, _++_}
+use Prim.Native.Nat.{ℕ, _+_, _-_}
+use mathlib.Core.Bool.{Bool}
+use mathlib.Core.List.{List, _∷_, _++_}
 use lib.ListN.{take, getD, replicate}
-use lib.Dec.{ltb, eqb}
+use lib.Dec.{eqb}
 use Rattle.units.specs.Number.{number, digits}
 use Rattle.units.specs.Units.{part, unit}
-use Rattle.layout.specs.Layout.{Layout, pages, pageBytes}
+use Rattle.layout.specs.Layout.{Layout, pageBytes, chipBytes}
 
 -- the W data bytes, and what the spare bytes say
 pub record Page : Type 0 where
@@ -50,6 +50,6 @@ module _ (l : Layout) where
   bytesOfPage x =
       x .bytes ++ (x .kind ∷ x .member ∷ (digits 2 (x .stripe) ++ (digits D (x .copied) ++ replicate (4 - D) 255)))
 
-  -- "N + 1 chips end to end": page p of chip c; beyond the pages of a chip, that of no bytes
+  -- "N + 1 chips end to end, each B × K pages": page p of the stretch of chip c
   unfoldable pub pageAt : List ℕ → ℕ → ℕ → Page
-  pageAt chips c p = pageOf (cond (ltb p (pages l)) (unit (pageBytes l) (c * pages l + p) chips) [])
+  pageAt chips c = let chip = unit (chipBytes l) c chips in λ p. pageOf (unit (pageBytes l) p chip)

@@ -4,7 +4,7 @@ use mathlib.Core.Path.{_≡_}
 use mathlib.Core.List.{List, [], _∷_}
 use lib.ListN.{length}
 use Rattle.units.specs.Units.{unitPut}
-use Rattle.layout.specs.Layout.{Layout, noChip, pages, pageBytes}
+use Rattle.layout.specs.Layout.{Layout, noChip, chipBytes}
 use Rattle.layout.specs.Images.{Images}
 use Rattle.stores.specs.declared.Counts.{Counts}
 use Rattle.rules.specs.declared.Reading.the-variants.{Done as ReadDone}
@@ -46,17 +46,13 @@ module _ (l : Layout) where
   calledAll [] x = x
   calledAll (call ∷ calls) x = calledAll calls (called call x)
 
-  -- the bytes of one chip
-  abbrev pub chipBytes : ℕ
-  chipBytes = pages l * pageBytes l
-
   -- "Then the stretch of one chip in the chip image becomes any bytes, its own among them, and nothing else changes."
   unfoldable pub chipTaken : ℕ → List ℕ → World → World
   chipTaken c bytes x =
       record {
         images =
             record {
-              chips = unitPut chipBytes c bytes (x .images .chips);
+              chips = unitPut (chipBytes l) c bytes (x .images .chips);
               records = x .images .records;
               slots = x .images .slots;
             };
@@ -91,7 +87,7 @@ module _ (l : Layout) where
   pub record Demand3 : Type 0 where
     pub oneChipTaken :
         (f : Finished) (first : List Call) (c : ℕ) → c ≤ N
-        → (bytes : List ℕ) → length bytes ≡ chipBytes
+        → (bytes : List ℕ) → length bytes ≡ chipBytes l
         → (second : List Call) → allName c second
         → ReadsTheBook c (calledAll second (chipTaken c bytes (calledAll first (start f))))
     pub noChipTaken : (f : Finished) (first : List Call) → ReadsTheBook noChip (calledAll first (start f))

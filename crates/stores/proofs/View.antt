@@ -11,7 +11,7 @@ use lib.Arith.{digits-lt, digits-div, digits-mod}
 use borrow.Author.Tests.{lt-ltb, le-ltb, le-leb, lt-leb}
 use Rattle.units.specs.Units.{unit, unitPut}
 use Rattle.units.specs.Update.{at}
-use Rattle.units.proofs.Units.{apart, unit-same, unit-other, length-unitPut, length-put-units, unit-fill-in, unit-fill-before, unit-fill-after}
+use Rattle.units.proofs.Units.{unit-unit, unit-unit-outside, apart, unit-same, unit-other, length-unitPut, length-put-units, unit-fill-in, unit-fill-before, unit-fill-after}
 use Rattle.units.proofs.Updates.{at-unique}
 use Rattle.layout.specs.Layout.{Layout, pages, inBlock, pageBytes, recordBytes}
 use Rattle.layout.specs.Page.{Page, pageOf, bytesOfPage, pageAt}
@@ -42,11 +42,11 @@ module _ (l : Layout) where
   -- the page of a unit of the chip image
   inside : (chips : List ℕ) (c p : ℕ) → p < pages l → pageAt l chips c p ≡ pageOf l (unit (pageBytes l) (c * pages l + p) chips)
   unfolding pageAt
-  inside chips c p h = rw (lt-ltb p (pages l) h)
+  inside chips c p h = ap (pageOf l) (unit-unit (pages l) (pageBytes l) c p chips h)
 
   outside : (chips : List ℕ) (c p : ℕ) → pages l ≤ p → pageAt l chips c p ≡ pageOf l []
   unfolding pageAt
-  outside chips c p h = rw (le-ltb p (pages l) h)
+  outside chips c p h = ap (pageOf l) (unit-unit-outside (pages l) (pageBytes l) c p chips h)
 
   module _ (narrow : D ≤ 4) (chips : List ℕ) (long : length chips ≡ chipsLength l) (c : ℕ) (chip : c < N + 1) where
     module _ (p : ℕ) (fits : p < pages l) (x : Page) (f : PageFits l x) where

@@ -3,7 +3,7 @@
 use mathlib.Core.Path.{_≡_, sym, ap, _∙_}
 use mathlib.Core.Logic.{_≢_}
 use Prim.Native.Nat.{ℕ, zero, suc, _+_, _-_, _*_, _≤_, _<_}
-use native.Mathlib.Nat.{zero-add, suc-add, add-zero, suc-mul, add-mul, mul-le-mul-right}
+use native.Mathlib.Nat.{zero-add, suc-add, add-zero, suc-mul, add-mul, mul-assoc, mul-le-mul-right}
 use native.Mathlib.Omega.{arith}
 use native.Mathlib.Decide.{decLt}
 use mathlib.Core.List.{List, [], _∷_, _++_}
@@ -131,6 +131,17 @@ part-unit u i a k xs h = part-part (i * u) u a k xs h
 pub getD-unit : (u i a d : ℕ) (xs : List ℕ) → a < u → getD (unit u i xs) a d ≡ getD xs (i * u + a) d
 unfolding unit
 getD-unit u i a d xs h = getD-part (i * u) u xs a d h
+
+-- a unit of u bytes of a unit of n of them
+pub unit-unit : (n u c p : ℕ) (xs : List ℕ) → p < n → unit u p (unit (n * u) c xs) ≡ unit u (c * n + p) xs
+unfolding unit
+unit-unit n u c p xs h =
+    rw (part-part (c * (n * u)) (n * u) (p * u) u xs (apart u p n h), add-mul, mul-assoc)
+
+pub unit-unit-outside : (n u c p : ℕ) (xs : List ℕ) → n ≤ p → unit u p (unit (n * u) c xs) ≡ []
+unfolding unit part
+unit-unit-outside n u c p xs h =
+    part-outside (p * u) u (take (n * u) (drop (c * (n * u)) xs)) (rw length-take (omega (arith, mul-le-mul-right u h)))
 
 pub unit-replicate : (n u i v : ℕ) → i < n → unit u i (replicate (n * u) v) ≡ replicate u v
 unfolding unit
