@@ -7,6 +7,7 @@ use lib.Dec.{eqb}
 use Rattle.units.specs.Units.{unit}
 use Rattle.layout.specs.Layout.{Layout, pages, pageBytes, recordBytes}
 
+-- "the three lent images"
 pub record Images : Type 0 where
   pub chips : List ℕ
   pub records : List ℕ

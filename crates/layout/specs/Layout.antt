@@ -36,6 +36,7 @@ module _ (l : Layout) where
   unfoldable pub none : ℕ
   none = 256 ^ D - 1
 
+  -- a page number is none
   abbrev pub isNone : ℕ → Bool
   isNone p = eqb p none
 

@@ -21,9 +21,11 @@ pub record Page : Type 0 where
 abbrev pub cleanKind : ℕ
 cleanKind = 255
 
+-- "68 data"
 abbrev pub dataKind : ℕ
 dataKind = 68
 
+-- "80 parity"
 abbrev pub parityKind : ℕ
 parityKind = 80
 

@@ -26,6 +26,7 @@ bit r m = eqb (r .bitmap / 2 ^ m % 2) 1
 abbrev pub noSlot : ℕ
 noSlot = 255
 
+-- the record has a slot
 abbrev pub hasSlot : Record → Bool
 hasSlot r = not (eqb (r .slot) noSlot)
 

@@ -15,6 +15,7 @@ module _ (l : Layout) where
   abbrev pub cleanIn : (ℕ → Page) → ℕ → ℕ → Bool
   cleanIn x b i = clean (x (pageIn l b i))
 
+  -- it is used: "no used page follows a clean one"
   abbrev pub usedIn : (ℕ → Page) → ℕ → ℕ → Bool
   usedIn x b i = not (cleanIn x b i)
 
@@ -22,6 +23,7 @@ module _ (l : Layout) where
   abbrev pub namedIn : (ℕ → Record) → ℕ → ℕ → ℕ → Bool
   namedIn r c b i = named l r c (pageIn l b i)
 
+  -- it is named by none
   abbrev pub unnamedIn : (ℕ → Record) → ℕ → ℕ → ℕ → Bool
   unnamedIn r c b i = unnamed l r c (pageIn l b i)
 

@@ -26,11 +26,13 @@ pub data Call : Type 0 where
 pub data Verdict : Type 0 where
   done cut refused : Verdict
 
+-- of a call that stores
 abbrev pub verdict : Answer → Verdict
 verdict (Done n) = done
 verdict (Cut n) = cut
 verdict (Refused r) = refused
 
+-- of a read
 abbrev pub readVerdict : Reading → Verdict
 readVerdict (ReadDone n) = done
 readVerdict (ReadRefused r) = refused

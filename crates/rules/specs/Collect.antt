@@ -69,5 +69,6 @@ module _ (l : Layout) where
         [])
         []
 
+  -- the collection of chip c, from the images
   unfoldable pub collectSteps : ℕ → Images → List Step
   collectSteps c s = collectOf c (pageAt l (s .chips) c) (recordAt l (s .records)) s

@@ -31,6 +31,7 @@ module _ (l : Layout) where
   unfoldable pub costOf : ℕ → ℕ
   costOf p = cond (mostInPartial p) (N - p) (p + 1)
 
+  -- the cost of the stripe j
   abbrev pub recordCost : (ℕ → Record) → ℕ → ℕ
   recordCost r j = costOf (setBits (r j))
 
@@ -54,12 +55,14 @@ module _ (l : Layout) where
       (gathered l (pageAt l (s .chips)) j (currentOutside r))
       (bytesAt l (pageAt l (s .chips)) (parityChip l j) (r .parity) ⊕ gathered l (pageAt l (s .chips)) j (oldInside r))
 
+  -- the pages read for it
   unfoldable pub newParityReads : Record → ℕ
   newParityReads r =
       cond (mostInPartial (setBits r))
       (gatheredReads l (currentOutside r))
       (readsAt l (r .parity) + gatheredReads l (oldInside r))
 
+  -- "kind (.. 80 parity), member (0 for parity), stripe, copied-from page (.. 65,535 if no copy)"
   abbrev pub parityPage : ℕ → List ℕ → Page
   parityPage j xs = record { bytes = xs; kind = parityKind; member = 0; stripe = j; copied = none l }
 
@@ -75,6 +78,7 @@ module _ (l : Layout) where
       ∷ plain (stripe j (committed p r))
       ∷ []
 
+  -- from the images as they then stand
   unfoldable pub commitAt : ℕ → ℕ → Images → List Step
   commitAt j p s = commitStores j p s (recordAt l (s .records) j)
 

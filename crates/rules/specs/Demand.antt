@@ -27,6 +27,7 @@ module _ (l : Layout) where
   imagesAfter (commit-call lost j a) s = commitCall l s lost j a .images
   imagesAfter (collect-call lost c a) s = collectCall l s lost c a .images
 
+  -- "whether the call was answered done, cut or refused, as the table, the cut rule and later requests have it"
   abbrev pub verdictOf : Call → Images → Verdict
   verdictOf (open-call lost a) s = verdict (openCall l s lost a .answer)
   verdictOf (read-call lost page buffer) s = readVerdict (readCall l s lost page buffer .answer)
@@ -34,6 +35,7 @@ module _ (l : Layout) where
   verdictOf (commit-call lost j a) s = verdict (commitCall l s lost j a .answer)
   verdictOf (collect-call lost c a) s = verdict (collectCall l s lost c a .answer)
 
+  -- one call: "It is fed each call's arguments but the images, and whether the call was answered ..; it sees nothing else."
   unfoldable pub called : Call → World → World
   called call x =
       record {
@@ -79,6 +81,7 @@ module _ (l : Layout) where
     pub allowance : ℕ
     pub isDone : verdict (formatCall l images allowance .answer) ≡ done
 
+  -- "The first list starts from the images as a finished format left them."
   abbrev pub start : Finished → World
   start f = record { images = formatCall l (f .images) (f .allowance) .images; book = finished l }
 

@@ -10,12 +10,15 @@ use Rattle.stores.specs.Steps.{Step, plain, stepsBelow}
 module _ (l : Layout) where
   open Layout l using (N, B, S)
 
+  -- "erase every block"
   abbrev pub eraseBlock : ℕ → ℕ → List Step
   eraseBlock c b = plain (erase c b) ∷ []
 
+  -- "in each its blocks ascending"
   abbrev pub eraseChip : ℕ → List Step
   eraseChip c = stepsBelow B (eraseBlock c)
 
+  -- "store the S empty records"
   abbrev pub emptyStripe : ℕ → List Step
   emptyStripe j = plain (stripe j (emptyRecord l)) ∷ []
 

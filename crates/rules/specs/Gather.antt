@@ -15,6 +15,7 @@ module _ (l : Layout) where
   unfoldable pub bytesAt : (ℕ → ℕ → Page) → ℕ → ℕ → List ℕ
   bytesAt y c p = cond (isNone l p) [] (y c p .bytes)
 
+  -- "and no read"
   unfoldable pub readsAt : ℕ → ℕ
   readsAt p = cond (isNone l p) 0 1
 
@@ -22,11 +23,14 @@ module _ (l : Layout) where
   abbrev pub memberBytes : (ℕ → ℕ → Page) → ℕ → (ℕ → ℕ) → ℕ → List ℕ
   memberBytes y j f m = bytesAt y (memberChip l j m) (f m)
 
+  -- their XOR over the N members
   unfoldable pub gathered : (ℕ → ℕ → Page) → ℕ → (ℕ → ℕ) → List ℕ
   gathered y j f = xorBelow N (memberBytes y j f)
 
+  -- member m has a page there
   abbrev pub isPage : (ℕ → ℕ) → ℕ → Bool
   isPage f m = not (isNone l (f m))
 
+  -- the pages read for it
   unfoldable pub gatheredReads : (ℕ → ℕ) → ℕ
   gatheredReads f = countBelow N (isPage f)

@@ -23,6 +23,7 @@ module _ (l : Layout) where
   unfoldable pub kindOn : ℕ → ℕ → ℕ
   kindOn c j = cond (eqb c (parityChip l j)) parityKind dataKind
 
+  -- "member (0 for parity)"
   unfoldable pub memberTag : ℕ → ℕ → ℕ
   memberTag c j = cond (eqb c (parityChip l j)) 0 (memberOn l j c)
 
@@ -34,5 +35,6 @@ module _ (l : Layout) where
   unfoldable pub named : (ℕ → Record) → ℕ → ℕ → Bool
   named r c p = someBelow S (names r c p)
 
+  -- "named by no record"
   abbrev pub unnamed : (ℕ → Record) → ℕ → ℕ → Bool
   unnamed r c p = not (named r c p)

@@ -62,6 +62,7 @@ module _ (l : Layout) where
     moveFrom i =
         cond (due (pageIn l (co .destination) i)) (moveStep (pageIn l (co .destination) i) ∷ []) []
 
+  -- the same, from the images as they then stand
   unfoldable pub moveSteps : Collection → ℕ → Images → List Step
   moveSteps co i s = moveFrom co (pageAt l (s .chips) (co .chip)) (recordAt l (s .records)) i
 
@@ -78,6 +79,7 @@ module _ (l : Layout) where
       (andThen l (thenBelow l K (moveSteps co) s) (λ t. ending (co .chip) (co .victim)) s)
       [])
 
+  -- the end of the collection that the images are in
   unfoldable pub finishSteps : Images → List Step
   finishSteps s = finishOf (collectionAt l (s .records)) s
 

@@ -50,9 +50,11 @@ module _ (l : Layout) where
   abbrev pub rebuilt : Images → ℕ → ℕ → Record → Fetched
   rebuilt s j m r = cond (bit r m) (throughPartial s j m r) (throughParity s j m r)
 
+  -- "copies the current page"
   abbrev pub direct : Images → ℕ → ℕ → Record → Fetched
   direct s j m r = record { bytes = pageAt l (s .chips) (memberChip l j m) (r .current m) .bytes; reads = 1 }
 
+  -- "zeros if none"
   abbrev pub unwritten : Fetched
   unwritten = record { bytes = replicate W 0; reads = 0 }
 

@@ -42,9 +42,11 @@ module _ (l : Layout) where
   abbrev pub lostNamed : ℕ → Bool
   lostNamed lost = eqb lost noChip || leb lost N
 
+  -- row 4: "not sound" where this is false
   abbrev pub recordsCheck : Images → Bool
   recordsCheck s = recordsSound l (recordAt l (s .records)) (collectionAt l (s .records))
 
+  -- row 5
   abbrev pub sparesCheck : Images → ℕ → Bool
   sparesCheck s lost =
       sparesSound l (recordAt l (s .records)) (pageAt l (s .chips)) (collectionAt l (s .records)) lost
@@ -66,13 +68,16 @@ module _ (l : Layout) where
       (unless (recordsCheck s) Records
       (unless (sparesCheck s lost) Spares below))))
 
+  -- open: rows 1 to 5
   unfoldable pub openCheck : Images → ℕ → Check
   openCheck s lost = imagesCheck s lost Passed
 
+  -- read: then "page .. too high", "not W bytes"
   unfoldable pub readCheck : Images → ℕ → ℕ → List ℕ → Check
   readCheck s lost page buffer =
       imagesCheck s lost (unless (ltb page (N * S)) Request (unless (eqb (length buffer) W) Data Passed))
 
+  -- write: "phase not 0", "page .. too high", "not W bytes", "a chip is lost"
   unfoldable pub writeCheck : Images → ℕ → ℕ → List ℕ → Check
   writeCheck s lost page xs =
       imagesCheck s lost

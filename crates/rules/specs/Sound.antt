@@ -34,6 +34,7 @@ module _ (l : Layout) where
   parityUnder r m =
       (isNone l (r .old m) && (isNone l (r .current m) || bit r m)) || not (isNone l (r .parity))
 
+  -- what the record says of member m
   unfoldable pub memberSound : Record → ℕ → Bool
   memberSound r m =
       pageNumber (r .current m)
@@ -73,9 +74,11 @@ module _ (l : Layout) where
   collecting co c = (eqb (co .phase) 1 || eqb (co .phase) 2) && eqb (co .chip) c
 
   module _ (r : ℕ → Record) where
+    -- the record of stripe j
     abbrev pub soundAt : ℕ → Bool
     soundAt j = recordSound (r j)
 
+    -- records i and j have the same slot
     abbrev pub sameSlot : ℕ → ℕ → Bool
     sameSlot j i = eqb (r i .slot) (r j .slot)
 
@@ -98,9 +101,11 @@ module _ (l : Layout) where
       taggedPage j p =
           eqb (x p .stripe) j && eqb (x p .kind) (kindOn l c j) && eqb (x p .member) (memberTag l c j)
 
+      -- the page that a number names, if any
       abbrev pub taggedNumber : ℕ → ℕ → Bool
       taggedNumber j p = isNone l p || taggedPage j p
 
+      -- both numbers of stripe j on this chip
       unfoldable pub taggedStripe : ℕ → Bool
       taggedStripe j = taggedNumber j (mainNumber l c j (r j)) && taggedNumber j (sideNumber l c j (r j))
 
@@ -108,6 +113,7 @@ module _ (l : Layout) where
       abbrev pub inOrder : ℕ → ℕ → Bool
       inOrder b i = not (cleanIn l x b i) || cleanIn l x b (i + 1)
 
+      -- of block b
       unfoldable pub orderedBlock : ℕ → Bool
       orderedBlock b = allBelow (K - 1) (inOrder b)
 
@@ -134,6 +140,7 @@ module _ (l : Layout) where
           not (namedIn l r c victim i)
           || eqb (countBelow K (twinIn destination (pageIn l victim i))) 1
 
+      -- of all places of the victim
       unfoldable pub phase2Sound : ℕ → ℕ → Bool
       phase2Sound victim destination = allBelow K (oneTwin victim destination)
 
@@ -150,5 +157,6 @@ module _ (l : Layout) where
     abbrev pub soundOrLost : (ℕ → ℕ → Page) → Collection → ℕ → ℕ → Bool
     soundOrLost y co lost c = eqb c lost || chipSound (y c) c co
 
+    -- all chips
     unfoldable pub sparesSound : (ℕ → ℕ → Page) → Collection → ℕ → Bool
     sparesSound y co lost = allBelow (N + 1) (soundOrLost y co lost)

@@ -33,6 +33,7 @@ module _ (l : Layout) where
       (whenFound (cheapest l (recordAt l (s .records))) (λ k. commitSteps l k s) [])
       []
 
+  -- "kind (.. 68 data ..), member, stripe, copied-from page (.. 65,535 if no copy)"
   abbrev pub dataPage : ℕ → ℕ → List ℕ → Page
   dataPage j m xs = record { bytes = xs; kind = dataKind; member = m; stripe = j; copied = none l }
 
@@ -40,6 +41,7 @@ module _ (l : Layout) where
   abbrev pub slotOf : (ℕ → Record) → ℕ → ℕ → Bool
   slotOf r i j = eqb (r j .slot) i
 
+  -- slot i is free: no record names it
   abbrev pub freeSlot : (ℕ → Record) → ℕ → Bool
   freeSlot r i = not (someBelow S (slotOf r i))
 

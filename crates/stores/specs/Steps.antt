@@ -40,6 +40,7 @@ isCut allowance xs = ltb allowance (length xs)
 abbrev pub noCounts : Counts
 noCounts = record { reads = 0; programs = 0; erases = 0; stores = 0 }
 
+-- "pages programmed"
 abbrev pub programsOf : Store → ℕ
 programsOf (program c p x) = 1
 programsOf (erase c b) = 0
@@ -47,6 +48,7 @@ programsOf (slot i xs) = 0
 programsOf (stripe j r) = 0
 programsOf (collection co) = 0
 
+-- "blocks erased"
 abbrev pub erasesOf : Store → ℕ
 erasesOf (program c p x) = 0
 erasesOf (erase c b) = 1
