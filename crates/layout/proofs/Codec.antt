@@ -213,16 +213,50 @@ module _ (l : Layout) (some : 1 ≤ l .D) where
   unfolding bytesOfCollection
   length-collection co = simp (length-append, length-digits) (omega arith)
 
-  pub collection-decodes : (co : Collection) → CollectionFits l co → collectionOf l (bytesOfCollection l co) ≡ co
-  unfolding collectionOf bytesOfCollection
-  collection-decodes co f =
-      let d = digits 2 (co .destination) in
-      let z = digits (recordBytes l - 6) (co .rest) in
-      let two = co .phase ∷ co .chip ∷ [] in
-      λ i. record {
-        phase = co .phase;
-        chip = co .chip;
-        victim = (ap number (part-append-from 2 0 2 two (digits 2 (co .victim) ++ (d ++ z)) refl) ∙ number-first 2 (co .victim) (d ++ z) (f .victim)) i;
-        destination = (ap number (part-append-from 2 2 2 two (digits 2 (co .victim) ++ (d ++ z)) refl ∙ part-append-from 2 0 2 (digits 2 (co .victim)) (d ++ z) (length-digits 2 (co .victim))) ∙ number-first 2 (co .destination) z (f .destination)) i;
-        rest = (ap number (part-append-from 2 4 (recordBytes l - 6) two (digits 2 (co .victim) ++ (d ++ z)) refl ∙ part-append-from 2 2 (recordBytes l - 6) (digits 2 (co .victim)) (d ++ z) (length-digits 2 (co .victim)) ∙ part-append-from 2 0 (recordBytes l - 6) d z (length-digits 2 (co .destination)) ∙ part-whole (recordBytes l - 6) z (length-digits (recordBytes l - 6) (co .rest))) ∙ number-digits (recordBytes l - 6) (co .rest) (f .rest)) i;
-      }
+  module _ (co : Collection) (f : CollectionFits l co) where
+    -- the two single bytes, and the three numbers behind them
+    front : List ℕ
+    front = co .phase ∷ co .chip ∷ []
+
+    v : List ℕ
+    v = digits 2 (co .victim)
+
+    d : List ℕ
+    d = digits 2 (co .destination)
+
+    z : List ℕ
+    z = digits (recordBytes l - 6) (co .rest)
+
+    collection-victim : collectionOf l (bytesOfCollection l co) .victim ≡ co .victim
+    unfolding collectionOf bytesOfCollection front v d z
+    collection-victim =
+        ap number (part-append-from 2 0 2 front (v ++ (d ++ z)) refl) ∙ number-first 2 (co .victim) (d ++ z) (f .victim)
+
+    collection-destination : collectionOf l (bytesOfCollection l co) .destination ≡ co .destination
+    unfolding collectionOf bytesOfCollection front v d z
+    collection-destination =
+        ap number
+        (part-append-from 2 2 2 front (v ++ (d ++ z)) refl
+        ∙ part-append-from 2 0 2 v (d ++ z) (length-digits 2 (co .victim)))
+        ∙ number-first 2 (co .destination) z (f .destination)
+
+    collection-rest : collectionOf l (bytesOfCollection l co) .rest ≡ co .rest
+    unfolding collectionOf bytesOfCollection front v d z
+    collection-rest =
+        let k = recordBytes l - 6 in
+        ap number
+        (part-append-from 2 4 k front (v ++ (d ++ z)) refl
+        ∙ part-append-from 2 2 k v (d ++ z) (length-digits 2 (co .victim))
+        ∙ part-append-from 2 0 k d z (length-digits 2 (co .destination))
+        ∙ part-whole k z (length-digits k (co .rest)))
+        ∙ number-digits k (co .rest) (f .rest)
+
+    pub collection-decodes : collectionOf l (bytesOfCollection l co) ≡ co
+    unfolding collectionOf bytesOfCollection
+    collection-decodes = λ i. record {
+      phase = co .phase;
+      chip = co .chip;
+      victim = collection-victim i;
+      destination = collection-destination i;
+      rest = collection-rest i;
+    }
