@@ -34,6 +34,10 @@ hasSlot r = not (eqb (r .slot) noSlot)
 abbrev pub slotted : (ℕ → Record) → ℕ → Bool
 slotted r j = hasSlot (r j)
 
+-- it has slot i
+abbrev pub slotOf : (ℕ → Record) → ℕ → ℕ → Bool
+slotOf r i j = eqb (r j .slot) i
+
 -- the numbers f 0, f 1, .. below n, in d bytes each
 unfoldable pub row : ℕ → (ℕ → ℕ) → ℕ → List ℕ
 row d f zero = []

@@ -3,13 +3,13 @@ use Prim.Native.Nat.{ℕ, _+_, _-_, _*_, _^_, _≤_, _<_}
 use native.Mathlib.Nat.{zero-mul, not-suc-le-zero, div-lt-iff-lt-mul, mul-comm, mul-one, mod-lt, mul-le-mul-left}
 use native.Mathlib.Omega.{arith}
 use mathlib.Core.Path.{_≡_, refl, ap, _∙_}
-use mathlib.Core.Bool.{Bool, true, false, not, cond}
+use mathlib.Core.Bool.{Bool, true, false, cond}
 use mathlib.Core.List.{List, [], _∷_}
 use lib.ListN.{length, replicate, getD-replicate}
 use lib.Arith.{digits-lt}
 use lib.Pow.{pow-pos}
 use lib.Seq.{take-all}
-use lib.Dec.{ltb, eqb, leb·zero}
+use lib.Dec.{lit≤, ltb, eqb, leb·zero}
 use borrow.Author.Tests.{lt-ltb, le-leb, eq-eqb, ne-eqb, eqb-true, ltb-false}
 use Rattle.units.specs.Look.{whenFound}
 use Rattle.units.specs.declared.Found.the-variants.{At}
@@ -18,7 +18,7 @@ use Rattle.units.proofs.Tests.{or-true, chain-all}
 use Rattle.layout.specs.Layout.{Layout, noChip, none, isNone, limits, pages, pageIn, pageBytes}
 use Rattle.layout.specs.Rotation.{parityChip, memberChip, memberOf, stripeOf}
 use Rattle.layout.specs.Page.{clean, pageOf, pageAt}
-use Rattle.layout.specs.Record.{Record, bit, slotted, emptyRecord, recordAt}
+use Rattle.layout.specs.Record.{Record, bit, slotted, slotOf, emptyRecord, recordAt}
 use Rattle.layout.specs.Collection.{collectionAt, idle}
 use Rattle.layout.specs.Images.{Images, lengths, chipsLength, recordsLength, slotsLength}
 use Rattle.layout.proofs.Limits.{Within, within, limited}
@@ -29,20 +29,20 @@ use Rattle.stores.specs.Store.{program, slot, stripe, apply}
 use Rattle.stores.specs.Steps.{plain, andThen, applyAll, isCut, noCounts, counted, countedAll}
 use Rattle.stores.proofs.View.{erasedPage, length-programmed, program-elsewhere, length-slotted}
 use Rattle.rules.specs.Names.{mainNumber, sideNumber}
-use Rattle.rules.specs.Blocks.{cleanIn, cleanBlock, lowestCleanBlock}
+use Rattle.rules.specs.Blocks.{cleanIn, usedIn, cleanBlock, inOrder, orderedBlock, lowestCleanBlock}
 use Rattle.rules.specs.Place.{openBlock, placeOf, atPlace, placed}
-use Rattle.rules.specs.Sound.{memberSound, recordSound, recordsSound, soundAt, ownSlot, collectionSound, taggedStripe, inOrder, orderedBlock, chipSound, soundOrLost, sparesSound}
+use Rattle.rules.specs.Sound.{memberSound, recordSound, recordsSound, soundAt, ownSlot, collectionSound, taggedStripe, chipSound, soundOrLost, sparesSound}
 use Rattle.rules.specs.declared.Check.{Check}
 use Rattle.rules.specs.declared.Check.the-variants.{Passed}
-use Rattle.rules.specs.Refusals.{formatCheck, unless, atRest, imagesCheck, recordsCheck, sparesCheck, readCheck, writeCheck}
+use Rattle.rules.specs.Refusals.{buffersCheck, formatCheck, unless, atRest, imagesCheck, recordsCheck, sparesCheck, readCheck, writeCheck}
 use Rattle.rules.specs.declared.Refusal.the-variants.{Collection, Request, Data, ChipSet}
 use Rattle.rules.specs.declared.Reading.the-variants.{Done as ReadDone}
-use Rattle.rules.specs.Write.{lowestFreeSlot, freeSlot, slotOf, commitOwed, owedSteps, dataPage, newPartial, newPartialReads, written, slotSteps, writeAt, writeMember, writeSteps}
+use Rattle.rules.specs.Write.{lowestFreeSlot, freeSlot, commitOwed, owedSteps, dataPage, newPartial, newPartialReads, written, slotSteps, writeAt, writeMember, writeSteps}
 use Rattle.rules.specs.Read.{fetch, fetchMember}
 use Rattle.rules.specs.declared.Answer.the-variants.{Done, Cut}
 use Rattle.rules.specs.Calls.{Outcome, ReadOutcome, run, formatCall, writeCall, readCall}
 use Rattle.rules.specs.Format.{formatSteps}
-use Rattle.rules.specs.Book.{verdict, done, cut, refused}
+use Rattle.rules.specs.Book.{Verdict, verdict, done, cut, refused}
 use Rattle.rules.proofs.Fresh.{Fresh, formatted, none-fits}
 
 cond-same : (b : Bool) (x : ℕ) → cond b x x ≡ x
@@ -95,7 +95,7 @@ module _ (l : Layout) (w : Within l) where
     records-pass =
         rw (
           all-true S (soundAt l r) (λ j h. rw (f .stripe j h) empty-sound),
-          all-true S (ownSlot l r) (λ j h. rw (f .stripe j h)),
+          all-true S (ownSlot r) (λ j h. rw (f .stripe j h)),
           count-zero S (slotted r) (λ j h. rw (f .stripe j h)),
           leb·zero M,
           f .collection,
@@ -120,11 +120,11 @@ module _ (l : Layout) (w : Within l) where
     unfolding cleanBlock
     clean-second c chip = all-true K (cleanIn l (pageAt l (s .chips) c) 1) (λ i h. clean-at c chip 1 i (omega (arith, w .blocks-low)) h (omega arith))
 
-    ordered : (c : ℕ) → c < N + 1 → (b : ℕ) → b < B → orderedBlock l r (pageAt l (s .chips) c) c b ≡ true
+    ordered : (c : ℕ) → c < N + 1 → (b : ℕ) → b < B → orderedBlock l (pageAt l (s .chips) c) b ≡ true
     unfolding orderedBlock
     ordered c chip b block =
-        all-true (K - 1) (inOrder l r (pageAt l (s .chips) c) c b)
-        (λ i h. rw (clean-at c chip b (i + 1) block (omega arith) (omega arith)) (or-true (not (cleanIn l (pageAt l (s .chips) c) b i))))
+        all-true (K - 1) (inOrder l (pageAt l (s .chips) c) b)
+        (λ i h. rw (clean-at c chip b (i + 1) block (omega arith) (omega arith)) (or-true (usedIn l (pageAt l (s .chips) c) b i)))
 
     tagged : (c j : ℕ) → j < S → taggedStripe l r (pageAt l (s .chips) c) c j ≡ true
     unfolding taggedStripe
@@ -136,7 +136,7 @@ module _ (l : Layout) (w : Within l) where
         rw (
           f .collection,
           all-true S (taggedStripe l r (pageAt l (s .chips) c) c) (tagged c),
-          all-true B (orderedBlock l r (pageAt l (s .chips) c) c) (ordered c chip),
+          all-true B (orderedBlock l (pageAt l (s .chips) c)) (ordered c chip),
           some-true B (cleanBlock l (pageAt l (s .chips) c)) 1 (w .blocks-low) (clean-second c chip),
         )
 
@@ -152,7 +152,7 @@ module _ (l : Layout) (w : Within l) where
 
     -- the checks of the images pass, with no chip lost
     passes : (below : Check) → imagesCheck l s noChip below ≡ below
-    unfolding imagesCheck
+    unfolding imagesCheck buffersCheck
     passes below = rw (limited l w, lengths-pass, records-pass, spares-pass noChip)
 
     module _ (i : ℕ) (page : i < N * S) where
@@ -202,7 +202,7 @@ module _ (l : Layout) (w : Within l) where
         unfolding lowestFreeSlot emptyRecord
         lowest-slot =
             first-is (M + 1) (freeSlot l (recordAt l (s .records))) 0 (omega arith)
-            (rw (some-false S (slotOf l (recordAt l (s .records)) 0) (λ j h. rw (f .stripe j h))))
+            (rw (some-false S (slotOf (recordAt l (s .records)) 0) (λ j h. rw (f .stripe j h))))
             (λ k low. absurd (not-suc-le-zero low))
 
   -- what a format leaves
@@ -305,24 +305,27 @@ module _ (l : Layout) (w : Within l) where
       done-at-three = rw (answered 3, three-stores narrow s f i page xs whole);
     }
 
-cut-not-done : {P : Type 0} → cut ≡ done → P
-cut-not-done e = let z : _≡_ {A = ℕ} 0 1 = cc in absurd (omega arith)
+-- an answer that is not done is told apart by a number
+abbrev rank : Verdict → ℕ
+rank done = 0
+rank cut = 1
+rank refused = 2
 
-refused-not-done : {P : Type 0} → refused ≡ done → P
-refused-not-done e = let z : _≡_ {A = ℕ} 0 1 = cc in absurd (omega arith)
+not-done : {P : Type 0} (v : Verdict) → 0 < rank v → v ≡ done → P
+not-done v h e = absurd (omega (arith, ap rank e))
 
 -- a format answered done has images of its geometry, and made its whole list
 format-done : (l : Layout) (s : Images) (allowance : ℕ) → verdict (formatCall l s allowance .answer) ≡ done
     → (limits l ≡ true) × (lengths l s ≡ true) × (formatCall l s allowance .images ≡ applyAll l (formatSteps l) s)
-unfolding formatCall formatCheck run
+unfolding formatCall formatCheck buffersCheck run
 format-done l s allowance e =
     by-test (limits l)
     (λ fit. by-test (lengths l s)
     (λ long. by-test (isCut allowance (formatSteps l))
-    (λ short. cut-not-done (rw (fit, long, short) at e))
+    (λ short. not-done cut (lit≤ tt) (rw (fit, long, short) at e))
     (λ enough. (fit, long, rw (fit, long, take-all allowance (formatSteps l) (ltb-false allowance (length (formatSteps l)) enough)))))
-    (λ long. refused-not-done (rw (fit, long) at e)))
-    (λ fit. refused-not-done (rw fit at e))
+    (λ long. not-done refused (lit≤ tt) (rw (fit, long) at e)))
+    (λ fit. not-done refused (lit≤ tt) (rw fit at e))
 
 lengths-are : (l : Layout) (s : Images) → lengths l s ≡ true
     → (length (s .chips) ≡ chipsLength l) × (length (s .records) ≡ recordsLength l) × (length (s .slots) ≡ slotsLength l)

@@ -55,7 +55,7 @@ module _ (l : Layout) where
     ]
 
     block-step : (from : Images) (c : ℕ) → c < N + 1 → (b : ℕ) → b < B → (t : Images)
-        → ErasedTo from c b t → ErasedTo from c (suc b) (applyAll l (eraseBlock l c b) t)
+        → ErasedTo from c b t → ErasedTo from c (suc b) (applyAll l (eraseBlock c b) t)
     unfolding applyAll apply
     block-step from c chip b block t h =
         let view = page-erased l narrow (t .chips) (h .chips) c chip b block in
@@ -72,7 +72,7 @@ module _ (l : Layout) where
     chip-step : (from : Images) (c : ℕ) → c < N + 1 → (t : Images)
         → ErasedTo from c 0 t → ErasedTo from (suc c) 0 (applyAll l (eraseChip l c) t)
     chip-step from c chip t h =
-        let e = below-carries l (ErasedTo from c) B (eraseBlock l c) t h (block-step from c chip) in
+        let e = below-carries l (ErasedTo from c) B (eraseBlock c) t h (block-step from c chip) in
         record {
           chips = e .chips;
           records = e .records;

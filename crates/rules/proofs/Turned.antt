@@ -12,7 +12,7 @@ use Rattle.rules.specs.declared.Refusal.the-variants.{Geometry}
 use Rattle.rules.specs.declared.Check.the-variants.{Passed}
 use Rattle.rules.specs.declared.Answer.the-variants.{Refused}
 use Rattle.rules.specs.declared.Reading.the-variants.{Refused as ReadRefused}
-use Rattle.rules.specs.Refusals.{refusalNumber, formatCheck, imagesCheck, openCheck, readCheck, writeCheck, commitCheck, collectCheck}
+use Rattle.rules.specs.Refusals.{refusalNumber, buffersCheck, formatCheck, imagesCheck, openCheck, readCheck, writeCheck, commitCheck, collectCheck}
 use Rattle.rules.specs.Calls.{formatCall, openCall, readCall, writeCall, commitCall, collectCall}
 
 module _ (l : Layout) where
@@ -26,7 +26,7 @@ module _ (l : Layout) where
     pub collect : (s : Images) (lost c a : ℕ) → collectCall l s lost c a ≡ record { answer = Refused r; images = s }
 
   pub outside-limits : limits l ≡ false → TurnedBack Geometry
-  unfolding formatCall openCall readCall writeCall commitCall collectCall formatCheck imagesCheck openCheck readCheck writeCheck commitCheck collectCheck
+  unfolding formatCall openCall readCall writeCall commitCall collectCall formatCheck buffersCheck imagesCheck openCheck readCheck writeCheck commitCheck collectCheck
   outside-limits e = record {
     format = λ s a. rw e;
     open-call = λ s lost a. rw e;
@@ -37,7 +37,7 @@ module _ (l : Layout) where
   }
 
   pub inside-limits : limits l ≡ true → (s : Images) → lengths l s ≡ true → formatCheck l s ≡ Passed
-  unfolding formatCheck
+  unfolding formatCheck buffersCheck
   inside-limits e s long = rw (e, long)
 
 -- "512 × 128 is refusal 1", "10 is refusal 1"

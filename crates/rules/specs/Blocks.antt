@@ -1,6 +1,6 @@
 -- The blocks of one chip; x gives the chip's pages.
-use Prim.Native.Nat.{ℕ}
-use mathlib.Core.Bool.{Bool, not}
+use Prim.Native.Nat.{ℕ, _+_, _-_}
+use mathlib.Core.Bool.{Bool, not, _||_}
 use Rattle.units.specs.declared.Found.{Found}
 use Rattle.units.specs.Look.{allBelow, firstBelow}
 use Rattle.layout.specs.Layout.{Layout, pageIn}
@@ -34,6 +34,14 @@ module _ (l : Layout) where
   -- block b is full
   unfoldable pub fullBlock : (ℕ → Page) → ℕ → Bool
   fullBlock x b = allBelow K (usedIn x b)
+
+  -- "no used page follows a clean one in a block": not the one behind place i
+  abbrev pub inOrder : (ℕ → Page) → ℕ → ℕ → Bool
+  inOrder x b i = usedIn x b i || cleanIn x b (i + 1)
+
+  -- nor any other of block b
+  unfoldable pub orderedBlock : (ℕ → Page) → ℕ → Bool
+  orderedBlock x b = allBelow (K - 1) (inOrder x b)
 
   -- "the lowest clean block"
   unfoldable pub lowestCleanBlock : (ℕ → Page) → Found

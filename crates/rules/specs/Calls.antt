@@ -52,6 +52,11 @@ abbrev pub readCountsOf : Reading → Counts
 readCountsOf (ReadDone n) = n
 readCountsOf (ReadRefused r) = noCounts
 
+-- a read that is done: "pages read", and what they gave
+abbrev pub readInto : Fetched → ReadOutcome
+readInto x =
+    record { answer = ReadDone (record { reads = x .reads; programs = 0; erases = 0; stores = 0 }); buffer = x .bytes }
+
 module _ (l : Layout) where
   -- "If the list is longer than the allowance it stops there and answers cut with the counts so far; otherwise done."
   unfoldable pub run : ℕ → List Step → Images → Outcome
@@ -88,11 +93,6 @@ module _ (l : Layout) where
   -- collect: images, lost chip, chip, allowance
   unfoldable pub collectCall : Images → ℕ → ℕ → ℕ → Outcome
   collectCall s lost c allowance = outcome (collectCheck l s lost c) allowance (collectSteps l c) s
-
-  -- a read that is done: "pages read", and what they gave
-  abbrev pub readInto : Fetched → ReadOutcome
-  readInto x =
-      record { answer = ReadDone (record { reads = x .reads; programs = 0; erases = 0; stores = 0 }); buffer = x .bytes }
 
   -- a read refused leaves its buffer
   abbrev pub readOutcome : Check → Images → ℕ → ℕ → List ℕ → ReadOutcome

@@ -16,6 +16,11 @@ pub record World : Type 0 where
   pub images : Images
   pub book : Book
 
+-- "each call naming that chip as lost"
+abbrev pub allName : ℕ → List Call → Type 0
+allName c [] = Unit
+allName c (call ∷ calls) = (lostChip call ≡ c) × allName c calls
+
 module _ (l : Layout) where
   open Layout l using (N, W, S)
 
@@ -60,11 +65,6 @@ module _ (l : Layout) where
             };
         book = x .book;
       }
-
-  -- "each call naming that chip as lost"
-  abbrev pub allName : ℕ → List Call → Type 0
-  allName c [] = Unit
-  allName c (call ∷ calls) = (lostChip call ≡ c) × allName c calls
 
   -- "the read of each logical page below N × S that names that chip, into a buffer of W bytes, is not refused, and the
   -- buffer equals the book's page"

@@ -7,12 +7,12 @@ use Rattle.layout.specs.Collection.{idle}
 use Rattle.stores.specs.Store.{erase, stripe, collection}
 use Rattle.stores.specs.Steps.{Step, plain, stepsBelow}
 
+-- "erase every block"
+abbrev pub eraseBlock : ℕ → ℕ → List Step
+eraseBlock c b = plain (erase c b) ∷ []
+
 module _ (l : Layout) where
   open Layout l using (N, B, S)
-
-  -- "erase every block"
-  abbrev pub eraseBlock : ℕ → ℕ → List Step
-  eraseBlock c b = plain (erase c b) ∷ []
 
   -- "in each its blocks ascending"
   abbrev pub eraseChip : ℕ → List Step

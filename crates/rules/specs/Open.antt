@@ -19,6 +19,10 @@ use Rattle.rules.specs.Sound.{twin}
 abbrev pub moved : ℕ → ℕ → ℕ → ℕ
 moved p q x = cond (eqb x p) q x
 
+-- "then the erase and phase 0"
+abbrev pub ending : ℕ → ℕ → List Step
+ending c b = plain (erase c b) ∷ plain (collection idle) ∷ []
+
 module _ (l : Layout) where
   open Layout l using (K)
 
@@ -65,10 +69,6 @@ module _ (l : Layout) where
   -- the same, from the images as they then stand
   unfoldable pub moveSteps : Collection → ℕ → Images → List Step
   moveSteps co i s = moveFrom co (pageAt l (s .chips) (co .chip)) (recordAt l (s .records)) i
-
-  -- "then the erase and phase 0"
-  abbrev pub ending : ℕ → ℕ → List Step
-  ending c b = plain (erase c b) ∷ plain (collection idle) ∷ []
 
   -- "Phase 1: erase the destination, store phase 0. Phase 2: the record stores still due, one for each page still named
   -- in the victim, in the order of the copies, then the erase and phase 0. Phase 0: no store."

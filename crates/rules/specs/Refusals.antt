@@ -56,17 +56,20 @@ module _ (l : Layout) where
   atRest s = eqb (collectionAt l (s .records) .phase) 0
 
   -- rows 1 and 2, of all calls
+  unfoldable pub buffersCheck : Images → Check → Check
+  buffersCheck s below = unless (limits l) Geometry (unless (lengths l s) Buffers below)
+
+  -- format: no more
   unfoldable pub formatCheck : Images → Check
-  formatCheck s = unless (limits l) Geometry (unless (lengths l s) Buffers Passed)
+  formatCheck s = buffersCheck s Passed
 
   -- rows 1 to 5, of all but format
   unfoldable pub imagesCheck : Images → ℕ → Check → Check
   imagesCheck s lost below =
-      unless (limits l) Geometry
-      (unless (lengths l s) Buffers
+      buffersCheck s
       (unless (lostNamed lost) LostChip
       (unless (recordsCheck s) Records
-      (unless (sparesCheck s lost) Spares below))))
+      (unless (sparesCheck s lost) Spares below)))
 
   -- open: rows 1 to 5
   unfoldable pub openCheck : Images → ℕ → Check

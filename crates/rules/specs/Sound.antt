@@ -1,14 +1,22 @@
 -- Document 01, "Sound images".
-use Prim.Native.Nat.{ℕ, _+_, _-_, _^_}
+use Prim.Native.Nat.{ℕ, _+_, _^_}
 use mathlib.Core.Bool.{Bool, not, cond, _&&_, _||_}
 use lib.Dec.{leb, ltb, eqb}
 use Rattle.units.specs.Look.{allBelow, someBelow, countBelow}
 use Rattle.layout.specs.Layout.{Layout, isNone, pages, pageIn}
 use Rattle.layout.specs.Page.{Page}
-use Rattle.layout.specs.Record.{Record, bit, noSlot, slotted}
+use Rattle.layout.specs.Record.{Record, bit, noSlot, slotted, slotOf}
 use Rattle.layout.specs.Collection.{Collection}
 use Rattle.rules.specs.Names.{mainNumber, sideNumber, kindOn, memberTag, unnamed}
-use Rattle.rules.specs.Blocks.{cleanIn, cleanBlock, namedIn, unnamedIn}
+use Rattle.rules.specs.Blocks.{cleanBlock, orderedBlock, namedIn, unnamedIn}
+
+-- a collection is in phase 1 or 2 on chip c
+abbrev pub collecting : Collection → ℕ → Bool
+collecting co c = (eqb (co .phase) 1 || eqb (co .phase) 2) && eqb (co .chip) c
+
+-- "no slot in two records": none before j has its slot
+abbrev pub ownSlot : (ℕ → Record) → ℕ → Bool
+ownSlot r j = not (slotted r j) || not (someBelow j (slotOf r (r j .slot)))
 
 module _ (l : Layout) where
   open Layout l using (N, K, B, S, M)
@@ -69,94 +77,73 @@ module _ (l : Layout) where
       && ltb (co .destination) B
       && not (eqb (co .victim) (co .destination)))
 
-  -- a collection is in phase 1 or 2 on chip c
-  abbrev pub collecting : Collection → ℕ → Bool
-  collecting co c = (eqb (co .phase) 1 || eqb (co .phase) 2) && eqb (co .chip) c
-
   module _ (r : ℕ → Record) where
     -- the record of stripe j
     abbrev pub soundAt : ℕ → Bool
     soundAt j = recordSound (r j)
 
-    -- records i and j have the same slot
-    abbrev pub sameSlot : ℕ → ℕ → Bool
-    sameSlot j i = eqb (r i .slot) (r j .slot)
-
-    -- "no slot in two records": none before j has its slot
-    abbrev pub ownSlot : ℕ → Bool
-    ownSlot j = not (slotted r j) || not (someBelow j (sameSlot j))
-
     -- "Records"; "at most M records with a slot"
     unfoldable pub recordsSound : Collection → Bool
     recordsSound co =
         allBelow S soundAt
-        && allBelow S ownSlot
+        && allBelow S (ownSlot r)
         && leb (countBelow S (slotted r)) M
         && collectionSound co
 
-    -- x gives the pages of chip c
-    module _ (x : ℕ → Page) (c : ℕ) where
-      -- "each page a record names has that stripe, kind and member"
-      abbrev pub taggedPage : ℕ → ℕ → Bool
-      taggedPage j p =
-          eqb (x p .stripe) j && eqb (x p .kind) (kindOn l c j) && eqb (x p .member) (memberTag l c j)
+  -- of chip c, with its pages x: "each page a record names has that stripe, kind and member"
+  abbrev pub taggedPage : (ℕ → Page) → ℕ → ℕ → ℕ → Bool
+  taggedPage x c j p =
+      eqb (x p .stripe) j && eqb (x p .kind) (kindOn l c j) && eqb (x p .member) (memberTag l c j)
 
-      -- the page that a number names, if any
-      abbrev pub taggedNumber : ℕ → ℕ → Bool
-      taggedNumber j p = isNone l p || taggedPage j p
+  -- the page that a number names, if any
+  abbrev pub taggedNumber : (ℕ → Page) → ℕ → ℕ → ℕ → Bool
+  taggedNumber x c j p = isNone l p || taggedPage x c j p
 
-      -- both numbers of stripe j on this chip
-      unfoldable pub taggedStripe : ℕ → Bool
-      taggedStripe j = taggedNumber j (mainNumber l c j (r j)) && taggedNumber j (sideNumber l c j (r j))
+  -- both numbers of stripe j on this chip
+  unfoldable pub taggedStripe : (ℕ → Record) → (ℕ → Page) → ℕ → ℕ → Bool
+  taggedStripe r x c j = taggedNumber x c j (mainNumber l c j (r j)) && taggedNumber x c j (sideNumber l c j (r j))
 
-      -- "no used page follows a clean one in a block"
-      abbrev pub inOrder : ℕ → ℕ → Bool
-      inOrder b i = not (cleanIn l x b i) || cleanIn l x b (i + 1)
+  -- "Phase 1: no record names a page of the destination."
+  unfoldable pub phase1Sound : (ℕ → Record) → ℕ → ℕ → Bool
+  phase1Sound r c destination = allBelow K (unnamedIn l r c destination)
 
-      -- of block b
-      unfoldable pub orderedBlock : ℕ → Bool
-      orderedBlock b = allBelow (K - 1) (inOrder b)
+  module _ (r : ℕ → Record) (x : ℕ → Page) (c : ℕ) where
+    -- page q has the same kind, member and stripe as p, is copied from it and named by no record
+    unfoldable pub twin : ℕ → ℕ → Bool
+    twin p q =
+        eqb (x q .kind) (x p .kind)
+        && eqb (x q .member) (x p .member)
+        && eqb (x q .stripe) (x p .stripe)
+        && eqb (x q .copied) p
+        && unnamed l r c q
 
-      -- page q has the same kind, member and stripe as p, is copied from it and named by no record
-      unfoldable pub twin : ℕ → ℕ → Bool
-      twin p q =
-          eqb (x q .kind) (x p .kind)
-          && eqb (x q .member) (x p .member)
-          && eqb (x q .stripe) (x p .stripe)
-          && eqb (x q .copied) p
-          && unnamed l r c q
+    -- place i of the destination holds the twin of page p
+    abbrev pub twinIn : ℕ → ℕ → ℕ → Bool
+    twinIn destination p i = twin p (pageIn l destination i)
 
-      -- "Phase 1: no record names a page of the destination."
-      unfoldable pub phase1Sound : ℕ → Bool
-      phase1Sound destination = allBelow K (unnamedIn l r c destination)
+    -- "Phase 2: each page named in the victim has exactly one page in the destination with the same .."
+    abbrev pub oneTwin : ℕ → ℕ → ℕ → Bool
+    oneTwin victim destination i =
+        not (namedIn l r c victim i)
+        || eqb (countBelow K (twinIn destination (pageIn l victim i))) 1
 
-      -- place i of the destination holds the twin of page p
-      abbrev pub twinIn : ℕ → ℕ → ℕ → Bool
-      twinIn destination p i = twin p (pageIn l destination i)
+    -- of all places of the victim
+    unfoldable pub phase2Sound : ℕ → ℕ → Bool
+    phase2Sound victim destination = allBelow K (oneTwin victim destination)
 
-      -- "Phase 2: each page named in the victim has exactly one page in the destination with the same .."
-      abbrev pub oneTwin : ℕ → ℕ → ℕ → Bool
-      oneTwin victim destination i =
-          not (namedIn l r c victim i)
-          || eqb (countBelow K (twinIn destination (pageIn l victim i))) 1
+    -- "some block is wholly clean, unless a collection is in phase 1 or 2 on that chip"
+    unfoldable pub chipSound : Collection → Bool
+    chipSound co =
+        allBelow S (taggedStripe r x c)
+        && allBelow B (orderedBlock l x)
+        && cond (collecting co c)
+        (cond (eqb (co .phase) 1) (phase1Sound r c (co .destination)) (phase2Sound (co .victim) (co .destination)))
+        (someBelow B (cleanBlock l x))
 
-      -- of all places of the victim
-      unfoldable pub phase2Sound : ℕ → ℕ → Bool
-      phase2Sound victim destination = allBelow K (oneTwin victim destination)
+  -- "Spares, on every chip but the lost one": y gives the pages of each chip
+  abbrev pub soundOrLost : (ℕ → Record) → (ℕ → ℕ → Page) → Collection → ℕ → ℕ → Bool
+  soundOrLost r y co lost c = eqb c lost || chipSound r (y c) c co
 
-      -- "some block is wholly clean, unless a collection is in phase 1 or 2 on that chip"
-      unfoldable pub chipSound : Collection → Bool
-      chipSound co =
-          allBelow S taggedStripe
-          && allBelow B orderedBlock
-          && cond (collecting co c)
-          (cond (eqb (co .phase) 1) (phase1Sound (co .destination)) (phase2Sound (co .victim) (co .destination)))
-          (someBelow B (cleanBlock l x))
-
-    -- "Spares, on every chip but the lost one": y gives the pages of each chip
-    abbrev pub soundOrLost : (ℕ → ℕ → Page) → Collection → ℕ → ℕ → Bool
-    soundOrLost y co lost c = eqb c lost || chipSound (y c) c co
-
-    -- all chips
-    unfoldable pub sparesSound : (ℕ → ℕ → Page) → Collection → ℕ → Bool
-    sparesSound y co lost = allBelow (N + 1) (soundOrLost y co lost)
+  -- all chips
+  unfoldable pub sparesSound : (ℕ → Record) → (ℕ → ℕ → Page) → Collection → ℕ → Bool
+  sparesSound r y co lost = allBelow (N + 1) (soundOrLost r y co lost)

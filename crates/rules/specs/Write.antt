@@ -11,7 +11,7 @@ use Rattle.units.specs.Xor.{_⊕_}
 use Rattle.layout.specs.Layout.{Layout, none}
 use Rattle.layout.specs.Rotation.{memberChip, memberOf, stripeOf}
 use Rattle.layout.specs.Page.{Page, pageAt, dataKind}
-use Rattle.layout.specs.Record.{Record, recordAt, bit, hasSlot, slotted}
+use Rattle.layout.specs.Record.{Record, recordAt, bit, hasSlot, slotted, slotOf}
 use Rattle.layout.specs.Images.{Images, slotAt}
 use Rattle.stores.specs.Store.{program, slot, stripe}
 use Rattle.stores.specs.Steps.{Step, plain, andThen}
@@ -36,10 +36,6 @@ module _ (l : Layout) where
   -- "kind (.. 68 data ..), member, stripe, copied-from page (.. 65,535 if no copy)"
   abbrev pub dataPage : ℕ → ℕ → List ℕ → Page
   dataPage j m xs = record { bytes = xs; kind = dataKind; member = m; stripe = j; copied = none l }
-
-  -- record j has slot i
-  abbrev pub slotOf : (ℕ → Record) → ℕ → ℕ → Bool
-  slotOf r i j = eqb (r j .slot) i
 
   -- slot i is free: no record names it
   abbrev pub freeSlot : (ℕ → Record) → ℕ → Bool

@@ -33,9 +33,6 @@ pub all-chain : (a : Bool) (bs : List Bool) → a ≡ true → AllTrue bs → ch
 all-chain a [] e h = e
 all-chain a (b ∷ bs) e h = all-chain (a && b) bs (both-and e (h .0)) (h .1)
 
-pub or-left : {a : Bool} (b : Bool) → a ≡ true → a || b ≡ true
-or-left b e = rw e
-
 pub or-right : (a : Bool) {b : Bool} → b ≡ true → a || b ≡ true
 or-right true e = refl
 or-right false e = e
