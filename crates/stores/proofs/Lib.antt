@@ -1,2 +1,3 @@
+pub mod Prefixes
 pub mod Runs
 pub mod View

@@ -1,9 +1,9 @@
 -- A conjunction of tests holds exactly where each of them does; lists are equal where a test says so.
 use Prim.Native.Nat.{ℕ}
-use mathlib.Core.Path.{_≡_, refl, ap₂}
+use mathlib.Core.Path.{_≡_, refl, sym, ap₂}
 use lib.Dec.{eqb}
 use borrow.Author.Tests.{eqb-true}
-use mathlib.Core.Bool.{Bool, true, false, _&&_, _||_, false≢true}
+use mathlib.Core.Bool.{Bool, true, false, not, _&&_, _||_, false≢true}
 use mathlib.Core.List.{List, [], _∷_}
 
 pub and-both : (a b : Bool) → a && b ≡ true → (a ≡ true) × (b ≡ true)
@@ -32,6 +32,10 @@ chain-all a (b ∷ bs) e =
 pub all-chain : (a : Bool) (bs : List Bool) → a ≡ true → AllTrue bs → chain a bs ≡ true
 all-chain a [] e h = e
 all-chain a (b ∷ bs) e h = all-chain (a && b) bs (both-and e (h .0)) (h .1)
+
+pub not-true : (b : Bool) → not b ≡ true → b ≡ false
+not-true true e = sym e
+not-true false e = refl
 
 pub or-right : (a : Bool) {b : Bool} → b ≡ true → a || b ≡ true
 or-right true e = refl

@@ -1,0 +1,106 @@
+-- The place search, case by case: in a block that is begun, in a clean block, or nowhere.
+use Prim.Native.Nat.{ℕ, zero, suc, _≤_, _<_}
+use native.Mathlib.Nat.{le-step, lt-suc-self}
+use native.Mathlib.Decide.{ℕ-discrete}
+use native.Mathlib.Omega.{arith}
+use mathlib.Core.Path.{_≡_}
+use mathlib.Core.Logic.{_≢_}
+use mathlib.Core.Bool.{Bool, true, false, not}
+use borrow.Author.Tests.{le-leb, lt-leb, not-true, not-false}
+use Rattle.units.specs.declared.Found.the-variants.{At, Nothing}
+use Rattle.units.specs.Look.{countBelow, firstBelow, whenFound}
+use Rattle.units.proofs.Looks.{by-test, by-order, by-three, by-found, both, all-at, all-false}
+use Rattle.units.proofs.Looks.{count-start, count-pass, count-fail, count-mono, count-positive, count-found, first-at, first-found, first-nothing}
+use Rattle.units.proofs.Tests.{and-both}
+use Rattle.layout.specs.Layout.{Layout, pageIn}
+use Rattle.layout.specs.Page.{Page}
+use Rattle.rules.specs.Blocks.{cleanIn, usedIn, cleanBlock, fullBlock, lowestCleanBlock}
+use Rattle.rules.specs.Place.{openBlock, lowestCleanPage, placeOf}
+
+-- general: a count of two or more is two different numbers
+two-in-order : (n : ℕ) (f : ℕ → Bool) (i j : ℕ) → i < j → j < n → f i ≡ true → f j ≡ true → 2 ≤ countBelow n f
+two-in-order n f i j h below s t = omega (arith, count-mono (suc j) n f below, count-pass j f t, count-positive j f i h s)
+
+pub count-two : (n : ℕ) (f : ℕ → Bool) (i j : ℕ) → i < n → j < n → i ≢ j → f i ≡ true → f j ≡ true → 2 ≤ countBelow n f
+count-two n f i j h h′ d s t =
+    by-three i j (λ less. two-in-order n f i j less h′ s t) (λ e. absurd (d e)) (λ more. two-in-order n f j i more h t s)
+
+pub count-other : (n : ℕ) (f : ℕ → Bool) (b : ℕ) → 2 ≤ countBelow n f → (i : ℕ) × (i < n) × (i ≢ b) × (f i ≡ true)
+count-other zero f b h = absurd (omega (arith, count-start f))
+count-other (suc n) f b h = by-test (f n)
+    (λ t. elim (ℕ-discrete n b) [
+      | yes e ↦ let (i, low, s) = count-found n f (omega (arith, count-pass n f t)) in (i, le-step low, λ q. omega arith, s)
+      | no d ↦ (n, lt-suc-self n, d, t)
+    ])
+    (λ t. let (i, low, d, s) = count-other n f b (omega (arith, count-fail n f t)) in (i, le-step low, d, s))
+
+module _ (l : Layout) (x : ℕ → Page) where
+  open Layout l using (K, B)
+
+  pub clean-at : (b i : ℕ) → cleanBlock l x b ≡ true → i < K → cleanIn l x b i ≡ true
+  unfolding cleanBlock
+  clean-at b i t place = all-at K (cleanIn l x b) t i place
+
+  -- a block that is begun is not wholly clean, and has a clean page
+  pub open-begun : (b : ℕ) → openBlock l x b ≡ true → cleanBlock l x b ≡ false
+  unfolding openBlock
+  open-begun b t = not-true (cleanBlock l x b) (and-both (not (cleanBlock l x b)) (not (fullBlock l x b)) t .0)
+
+  open-clean : (b : ℕ) → openBlock l x b ≡ true → (i : ℕ) × (i < K) × (cleanIn l x b i ≡ true)
+  unfolding openBlock fullBlock
+  open-clean b t =
+      let nay = not-true (fullBlock l x b) (and-both (not (cleanBlock l x b)) (not (fullBlock l x b)) t .1) in
+      let (i, place, e) = all-false K (usedIn l x b) nay in
+      (i, place, not-false (cleanIn l x b i) e)
+
+  is-full : (b : ℕ) → cleanBlock l x b ≡ false → openBlock l x b ≡ false → fullBlock l x b ≡ true
+  unfolding openBlock
+  is-full b begun shut = not-false (fullBlock l x b) (rw begun at shut)
+
+  pub is-open : (b i : ℕ) → cleanBlock l x b ≡ false → i < K → cleanIn l x b i ≡ true → openBlock l x b ≡ true
+  unfolding fullBlock
+  is-open b i begun place t =
+      by-test (openBlock l x b)
+      (λ e. e)
+      (λ e. both (cleanIn l x b i) t (not-true (cleanIn l x b i) (all-at K (usedIn l x b) (is-full b begun e) i place)))
+
+  -- the answers
+  pub place-begun : (b i : ℕ) → firstBelow B (openBlock l x) ≡ At b → firstBelow K (cleanIn l x b) ≡ At i → placeOf l x ≡ At (pageIn l b i)
+  unfolding placeOf lowestCleanPage whenFound
+  place-begun b i e q = rw (e, q)
+
+  pub place-fresh : (b : ℕ) → firstBelow B (openBlock l x) ≡ Nothing → 2 ≤ countBelow B (cleanBlock l x) → firstBelow B (cleanBlock l x) ≡ At b
+      → placeOf l x ≡ At (pageIn l b 0)
+  unfolding placeOf lowestCleanBlock whenFound
+  place-fresh b e h q = rw (e, le-leb 2 (countBelow B (cleanBlock l x)) h, q)
+
+  pub place-nowhere : firstBelow B (openBlock l x) ≡ Nothing → countBelow B (cleanBlock l x) < 2 → placeOf l x ≡ Nothing
+  unfolding placeOf whenFound
+  place-nowhere e h = rw (e, lt-leb 2 (countBelow B (cleanBlock l x)) h)
+
+  -- and no others
+  pub by-place {ℓ} : {P : Type ℓ}
+      → ((b i : ℕ) → firstBelow B (openBlock l x) ≡ At b → firstBelow K (cleanIn l x b) ≡ At i → P)
+      → ((b : ℕ) → firstBelow B (openBlock l x) ≡ Nothing → 2 ≤ countBelow B (cleanBlock l x) → firstBelow B (cleanBlock l x) ≡ At b → P)
+      → (firstBelow B (openBlock l x) ≡ Nothing → countBelow B (cleanBlock l x) < 2 → P)
+      → P
+  by-place begun fresh nowhere =
+      by-found (firstBelow B (openBlock l x))
+      (λ b e.
+      let (k, place, t) = open-clean b (first-at B (openBlock l x) b e .1) in
+      let (i, q) = first-found K (cleanIn l x b) k place t in
+      begun b i e q)
+      (λ e. by-order (countBelow B (cleanBlock l x)) 2 (nowhere e) (λ h.
+      let (k, fits, t) = count-found B (cleanBlock l x) (omega arith) in
+      let (b, q) = first-found B (cleanBlock l x) k fits t in
+      fresh b e h q))
+
+  -- where there is none, all blocks are full but the one that is clean
+  pub all-full : (b d : ℕ) → b < B → d < B → d ≢ b → cleanBlock l x b ≡ true → placeOf l x ≡ Nothing → fullBlock l x d ≡ true
+  all-full b d fits fits′ other t e =
+      by-place
+      (λ k i o q. cc (place-begun k i o q))
+      (λ k o h q. cc (place-fresh k o h q))
+      (λ o few. by-test (cleanBlock l x d)
+      (λ s. absurd (omega (arith, count-two B (cleanBlock l x) d b fits′ fits other s t)))
+      (λ s. is-full d s (first-nothing B (openBlock l x) o d fits′)))

@@ -1,0 +1,106 @@
+-- "Sound images" as plain statements, in the order of document 01.
+use Prim.Native.Nat.{ℕ, _+_, _^_, _≤_, _<_}
+use native.Mathlib.Omega.{arith}
+use mathlib.Core.Path.{_≡_}
+use mathlib.Core.Logic.{_≢_}
+use mathlib.Core.Bool.{true, false}
+use lib.ListN.{length}
+use Rattle.units.specs.Look.{countBelow}
+use Rattle.layout.specs.Layout.{Layout, noChip, none, pages, pageIn}
+use Rattle.layout.specs.Page.{Page, pageAt}
+use Rattle.layout.specs.Record.{Record, bit, noSlot, slotted, recordAt}
+use Rattle.layout.specs.Collection.{Collection, collectionAt}
+use Rattle.layout.specs.Images.{Images, chipsLength, recordsLength, slotsLength}
+use Rattle.layout.proofs.Limits.{Within}
+use Rattle.rules.specs.Names.{mainNumber, sideNumber, kindOn, memberTag, named}
+use Rattle.rules.specs.Blocks.{cleanIn, cleanBlock}
+use Rattle.rules.specs.Sound.{collecting, twinIn}
+
+module _ (l : Layout) where
+  open Layout l using (N, K, B, S, M, D)
+
+  -- a geometry within the limits, and page numbers of 1 to 4 bytes
+  pub record Usable : Type 0 where
+    pub within : Within l
+    pub some : 1 ≤ D
+    pub narrow : D ≤ 4
+
+  -- "none or below B × K"
+  abbrev pub Numbered : ℕ → Type 0
+  Numbered p = p ≢ none l → p < pages l
+
+  -- what a record says of member m
+  pub record MemberSound (r : Record) (m : ℕ) : Type 0 where
+    pub current : Numbered (r .current m)
+    pub old : Numbered (r .old m)
+    pub beyond : N ≤ m → (r .current m ≡ none l) × (r .old m ≡ none l)
+    pub old-under-bit : r .old m ≢ none l → bit r m ≡ true
+    pub current-under-bit : bit r m ≡ true → (r .current m ≢ none l) × (r .current m ≢ r .old m)
+    pub parity-under-old : r .old m ≢ none l → r .parity ≢ none l
+    pub parity-under-current : r .current m ≢ none l → bit r m ≡ false → r .parity ≢ none l
+
+  -- one record
+  pub record RecordSound (r : Record) : Type 0 where
+    pub member : (m : ℕ) → m < 6 → MemberSound r m
+    pub parity : Numbered (r .parity)
+    pub bitmap : r .bitmap < 2 ^ N
+    pub no-slot : r .bitmap ≡ 0 → r .slot ≡ noSlot
+    pub slot : r .bitmap ≢ 0 → r .slot ≤ M
+    pub rest : r .rest ≡ 0
+
+  -- the collection record
+  pub record CollectionSound (co : Collection) : Type 0 where
+    pub rest : co .rest ≡ 0
+    pub at-rest : co .phase ≡ 0 → (co .chip ≡ 0) × (co .victim ≡ 0) × (co .destination ≡ 0)
+    pub phases : co .phase ≤ 2
+    pub chip : co .phase ≢ 0 → co .chip ≤ N
+    pub victim : co .phase ≢ 0 → co .victim < B
+    pub destination : co .phase ≢ 0 → co .destination < B
+    pub apart : co .phase ≢ 0 → co .victim ≢ co .destination
+
+  -- all records
+  pub record RecordsSound (r : ℕ → Record) (co : Collection) : Type 0 where
+    pub stripe : (j : ℕ) → j < S → RecordSound (r j)
+    pub own : (i j : ℕ) → i < j → j < S → slotted r j ≡ true → r i .slot ≢ r j .slot
+    pub few : countBelow S (slotted r) ≤ M
+    pub collection : CollectionSound co
+
+  -- page p of chip c "has that stripe, kind and member"
+  pub record Tagged (x : ℕ → Page) (c j p : ℕ) : Type 0 where
+    pub stripe : x p .stripe ≡ j
+    pub kind : x p .kind ≡ kindOn l c j
+    pub member : x p .member ≡ memberTag l c j
+
+  -- page p "has exactly one page in the destination", at place k
+  pub record OneTwin (r : ℕ → Record) (x : ℕ → Page) (c destination p : ℕ) : Type 0 where
+    pub place : ℕ
+    pub fits : place < K
+    pub is-twin : twinIn l r x c destination p place ≡ true
+    pub only : (k : ℕ) → k < K → twinIn l r x c destination p k ≡ true → k ≡ place
+
+  -- one chip c, with its pages x
+  pub record ChipSound (r : ℕ → Record) (x : ℕ → Page) (c : ℕ) (co : Collection) : Type 0 where
+    pub main : (j : ℕ) → j < S → mainNumber l c j (r j) ≢ none l → Tagged x c j (mainNumber l c j (r j))
+    pub side : (j : ℕ) → j < S → sideNumber l c j (r j) ≢ none l → Tagged x c j (sideNumber l c j (r j))
+    pub order : (b i : ℕ) → b < B → i + 1 < K → cleanIn l x b i ≡ true → cleanIn l x b (i + 1) ≡ true
+    pub spare : collecting co c ≡ false → (b : ℕ) × (b < B) × (cleanBlock l x b ≡ true)
+    pub phase-1 : co .phase ≡ 1 → co .chip ≡ c → (i : ℕ) → i < K → named l r c (pageIn l (co .destination) i) ≡ false
+    pub phase-2 : co .phase ≡ 2 → co .chip ≡ c → (i : ℕ) → i < K → named l r c (pageIn l (co .victim) i) ≡ true
+        → OneTwin r x c (co .destination) (pageIn l (co .victim) i)
+
+  -- images of their lengths that are sound, "on every chip but the lost one"
+  pub record SoundBut (lost : ℕ) (s : Images) : Type 0 where
+    pub chips : length (s .chips) ≡ chipsLength l
+    pub records : length (s .records) ≡ recordsLength l
+    pub slots : length (s .slots) ≡ slotsLength l
+    pub stripes : RecordsSound (recordAt l (s .records)) (collectionAt l (s .records))
+    pub chip : (c : ℕ) → c < N + 1 → c ≢ lost → ChipSound (recordAt l (s .records)) (pageAt l (s .chips) c) c (collectionAt l (s .records))
+
+  -- on every chip
+  abbrev pub Sound : Images → Type 0
+  Sound s = SoundBut noChip s
+
+  -- no chip is the one that stands for none
+  pub sound-chip : Usable → (s : Images) → Sound s → (c : ℕ) → c < N + 1
+      → ChipSound (recordAt l (s .records)) (pageAt l (s .chips) c) c (collectionAt l (s .records))
+  sound-chip u s f c chip = f .chip c chip (λ e. absurd (omega (arith, u .within .members-high)))
