@@ -315,7 +315,7 @@ not-done : {P : Type 0} (v : Verdict) → 0 < rank v → v ≡ done → P
 not-done v h e = absurd (omega (arith, ap rank e))
 
 -- a format answered done has images of its geometry, and made its whole list
-format-done : (l : Layout) (s : Images) (allowance : ℕ) → verdict (formatCall l s allowance .answer) ≡ done
+pub format-done : (l : Layout) (s : Images) (allowance : ℕ) → verdict (formatCall l s allowance .answer) ≡ done
     → (limits l ≡ true) × (lengths l s ≡ true) × (formatCall l s allowance .images ≡ applyAll l (formatSteps l) s)
 unfolding formatCall formatCheck buffersCheck run
 format-done l s allowance e =
@@ -327,7 +327,7 @@ format-done l s allowance e =
     (λ long. not-done refused (lit≤ tt) (rw (fit, long) at e)))
     (λ fit. not-done refused (lit≤ tt) (rw fit at e))
 
-lengths-are : (l : Layout) (s : Images) → lengths l s ≡ true
+pub lengths-are : (l : Layout) (s : Images) → lengths l s ≡ true
     → (length (s .chips) ≡ chipsLength l) × (length (s .records) ≡ recordsLength l) × (length (s .slots) ≡ slotsLength l)
 unfolding lengths
 lengths-are l s e =

@@ -93,11 +93,18 @@ module _ (l : Layout) where
       reads = λ i h. fetch-unwritten l s noChip i (ap (λ (r : Record). r .current (memberOf l i)) (f .stripe (stripeOf l i) (stripe-fits l (u .within) i h)));
     }
 
-    -- a read is not refused and gives the book's page, whichever chip it names
-    pub inv-reads : (s : Images) (book : Book) → Inv s book → (lost : ℕ) → lostNamed l lost ≡ true → (i : ℕ) → i < N * S → (buffer : List ℕ) → length buffer ≡ W
-        → (n : Counts) × (_≡_ {A = ReadOutcome} (readCall l s lost i buffer) (record { answer = ReadDone n; buffer = book i }))
+    -- Of images t that a read naming `lost` takes for s, the read is not refused and gives the book's page.
+    pub reads-book : (s t : Images) (book : Book) → Inv s book → (lost : ℕ) → lostNamed l lost ≡ true → SoundBut l lost t
+        → ((i : ℕ) → fetch l t lost i ≡ fetch l s lost i)
+        → (i : ℕ) → i < N * S → (buffer : List ℕ) → length buffer ≡ W
+        → (n : Counts) × (_≡_ {A = ReadOutcome} (readCall l t lost i buffer) (record { answer = ReadDone n; buffer = book i }))
     unfolding readCall
-    inv-reads s book f lost is-named i inside buffer whole = (
+    reads-book s t book f lost is-named sound same i inside buffer whole = (
       record { reads = fetch l s lost i .reads; programs = 0; erases = 0; stores = 0 },
-      rw (read-passes l s lost i buffer (record { within = u .within; named = is-named; sound = sound-but l (u .within) s lost (f .sound); page = inside; whole = whole }), fetch-rebuilt l (u .within) s (f .sound) (f .data-too) lost i inside, f .reads i inside),
+      rw (
+        read-passes l t lost i buffer (record { within = u .within; named = is-named; sound = sound; page = inside; whole = whole }),
+        same i,
+        fetch-rebuilt l (u .within) s (f .sound) (f .data-too) lost i inside,
+        f .reads i inside,
+      ),
     )

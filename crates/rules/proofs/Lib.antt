@@ -1,4 +1,5 @@
 pub mod Accepted
+pub mod Alive
 pub mod Carries
 pub mod Checks
 pub mod Chips
@@ -8,6 +9,7 @@ pub mod Committing
 pub mod Compute
 pub mod Contents
 pub mod Copying
+pub mod Demand
 pub mod Ending
 pub mod Entries
 pub mod Filling
@@ -17,6 +19,7 @@ pub mod Fresh
 pub mod Invariant
 pub mod Kept
 pub mod Last
+pub mod Lists
 pub mod Moves
 pub mod Names
 pub mod Parity
@@ -26,6 +29,7 @@ pub mod Repoint
 pub mod Room
 pub mod Rows
 pub mod Statements
+pub mod Taken
 pub mod Turned
 pub mod Writes
 pub mod Writing
