@@ -5,9 +5,7 @@ use mathlib.Core.Path.{_≡_, refl, sym, ap, _∙_}
 use mathlib.Core.Bool.{true}
 use mathlib.Core.List.{List, [], _∷_, _++_}
 use lib.ListN.{length}
-use lib.Dec.{lit≤}
-use Rattle.layout.specs.declared.Geometry.{Geometry}
-use Rattle.layout.specs.Layout.{Layout, layoutOf, noChip, chipBytes}
+use Rattle.layout.specs.Layout.{Layout, noChip, chipBytes}
 use Rattle.layout.specs.Images.{Images}
 use Rattle.layout.proofs.Limits.{within}
 use Rattle.rules.specs.Book.{Call, lostChip}
@@ -162,9 +160,5 @@ module _ (l : Layout) where
         rw (first-ends first [], lists-happen first [] (start l f)) at
         (history-reads l (usable f) (asEvents first ++ []) (start l f) (first-allowed first [] tt) (start-holds f))
 
-    pub demand-3-of : Demand3 l
-    demand-3-of = record { oneChipTaken = one-chip; noChipTaken = no-chip }
-
--- Demand 3, for every geometry
-pub demand-3 : (g : Geometry) → Demand3 (layoutOf g)
-demand-3 g = demand-3-of (layoutOf g) (lit≤ tt) (lit≤ tt)
+    pub demand-3 : Demand3 l
+    demand-3 = record { oneChipTaken = one-chip; noChipTaken = no-chip }

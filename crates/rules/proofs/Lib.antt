@@ -9,6 +9,7 @@ pub mod Committing
 pub mod Compute
 pub mod Contents
 pub mod Copying
+pub mod CutRule
 pub mod Demand
 pub mod Ending
 pub mod Entries
@@ -30,6 +31,7 @@ pub mod Room
 pub mod Rows
 pub mod Statements
 pub mod Taken
+pub mod Theorems
 pub mod Turned
 pub mod Writes
 pub mod Writing

@@ -1,3 +1,4 @@
 pub mod Prefixes
 pub mod Runs
+pub mod Totals
 pub mod View

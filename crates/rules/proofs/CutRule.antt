@@ -1,0 +1,88 @@
+-- "If the list is longer than the allowance it stops there and answers cut with the counts so far; otherwise done. Cut is given in no other case."
+use Prim.Native.Nat.{ℕ, _≤_, _<_}
+use native.Mathlib.Omega.{arith}
+use mathlib.Core.Path.{_≡_, refl, sym, ap, _∙_}
+use mathlib.Core.List.{List}
+use lib.ListN.{length}
+use lib.Seq.{take-all}
+use borrow.Author.Tests.{lt-ltb, le-ltb, ltb-true}
+use Rattle.units.proofs.Looks.{by-test}
+use Rattle.layout.specs.Layout.{Layout}
+use Rattle.layout.specs.Images.{Images}
+use Rattle.stores.specs.declared.Counts.{Counts}
+use Rattle.stores.specs.Steps.{Step, made, isCut, noCounts, countedAll, applyAll}
+use Rattle.stores.proofs.Totals.{cut-stores}
+use Rattle.rules.specs.declared.Refusal.{Refusal}
+use Rattle.rules.specs.declared.Check.{Check}
+use Rattle.rules.specs.declared.Check.the-variants.{Passed, Failed}
+use Rattle.rules.specs.declared.Answer.{Answer}
+use Rattle.rules.specs.declared.Answer.the-variants.{Done, Cut, Refused}
+use Rattle.rules.specs.Refusals.{formatCheck, openCheck, writeCheck, commitCheck, collectCheck}
+use Rattle.rules.specs.Open.{openSteps}
+use Rattle.rules.specs.Collect.{collectSteps}
+use Rattle.rules.specs.Commit.{commitSteps}
+use Rattle.rules.specs.Write.{writeSteps}
+use Rattle.rules.specs.Format.{formatSteps}
+use Rattle.rules.specs.Calls.{Outcome, run, outcome, formatCall, openCall, writeCall, commitCall, collectCall}
+
+-- what tells answers apart
+abbrev kindOf : Answer → ℕ
+kindOf (Done n) = 0
+kindOf (Cut n) = 1
+kindOf (Refused r) = 2
+
+abbrev storesCut : Answer → ℕ
+storesCut (Done n) = 0
+storesCut (Cut n) = n .stores
+storesCut (Refused r) = 0
+
+module _ (l : Layout) where
+  -- the outcome o of a call on images s with its check, its allowance a and its list xs
+  pub record CutRule (check : Check) (a : ℕ) (xs : List Step) (s : Images) (o : Outcome) : Type 0 where
+    -- "all buffers unchanged"
+    pub refusing : (r : Refusal) → check ≡ Failed r → o ≡ record { answer = Refused r; images = s }
+    -- "after a cut the list's first stores, as many as the allowance, stand whole"
+    pub cutting : check ≡ Passed → a < length xs
+        → o ≡ record { answer = Cut (countedAll (made a xs) noCounts); images = applyAll l (made a xs) s }
+    -- "otherwise done"
+    pub finishing : check ≡ Passed → length xs ≤ a → o ≡ record { answer = Done (countedAll xs noCounts); images = applyAll l xs s }
+    -- "Cut is given in no other case."
+    pub only-cut : (n : Counts) → o .answer ≡ Cut n → (check ≡ Passed) × (a < length xs) × (n .stores ≡ a)
+
+  cut-only : (check : Check) (a : ℕ) (steps : Images → List Step) (s : Images) (n : Counts) → outcome l check a steps s .answer ≡ Cut n
+      → (check ≡ Passed) × (a < length (steps s)) × (n .stores ≡ a)
+  unfolding run
+  cut-only Passed a steps s n e = by-test (isCut a (steps s))
+      (λ h.
+      let less = ltb-true a (length (steps s)) h in
+      (refl, less, sym (ap storesCut (rw h at e)) ∙ cut-stores a (steps s) less))
+      (λ h. absurd (omega (arith, ap kindOf (rw h at e))))
+  cut-only (Failed r) a steps s n e = absurd (omega (arith, ap kindOf e))
+
+  outcome-rule : (check : Check) (a : ℕ) (steps : Images → List Step) (s : Images) → CutRule check a (steps s) s (outcome l check a steps s)
+  unfolding run
+  outcome-rule check a steps s = record {
+    refusing = λ r e. rw e;
+    cutting = λ e h. rw (e, lt-ltb a (length (steps s)) h);
+    finishing = λ e h. rw (e, le-ltb a (length (steps s)) h, take-all a (steps s) h);
+    only-cut = cut-only check a steps s;
+  }
+
+  -- the five calls that store
+  pub record CutRules : Type 0 where
+    pub format : (s : Images) (a : ℕ) → CutRule (formatCheck l s) a (formatSteps l) s (formatCall l s a)
+    pub open-call : (s : Images) (lost a : ℕ) → CutRule (openCheck l s lost) a (openSteps l lost s) s (openCall l s lost a)
+    pub write : (s : Images) (lost page : ℕ) (xs : List ℕ) (a : ℕ)
+        → CutRule (writeCheck l s lost page xs) a (writeSteps l page xs s) s (writeCall l s lost page xs a)
+    pub commit : (s : Images) (lost j a : ℕ) → CutRule (commitCheck l s lost j) a (commitSteps l j s) s (commitCall l s lost j a)
+    pub collect : (s : Images) (lost c a : ℕ) → CutRule (collectCheck l s lost c) a (collectSteps l c s) s (collectCall l s lost c a)
+
+  pub cut-rules : CutRules
+  unfolding formatCall openCall writeCall commitCall collectCall
+  cut-rules = record {
+    format = λ s a. outcome-rule (formatCheck l s) a (λ t. formatSteps l) s;
+    open-call = λ s lost a. outcome-rule (openCheck l s lost) a (openSteps l lost) s;
+    write = λ s lost page xs a. outcome-rule (writeCheck l s lost page xs) a (writeSteps l page xs) s;
+    commit = λ s lost j a. outcome-rule (commitCheck l s lost j) a (commitSteps l j) s;
+    collect = λ s lost c a. outcome-rule (collectCheck l s lost c) a (collectSteps l c) s;
+  }

@@ -1,0 +1,234 @@
+-- The theorems of the argument, for every geometry: what holds of every call by the definitions of document 01 alone.
+use Prim.Native.Nat.{ℕ, _+_, _*_, _≤_, _<_}
+use native.Mathlib.Omega.{arith}
+use mathlib.Core.Path.{_≡_, refl, sym, ap, _∙_}
+use mathlib.Core.Logic.{_≢_, _↔_}
+use mathlib.Core.Bool.{true, false}
+use mathlib.Core.List.{List, []}
+use lib.ListN.{length}
+use lib.Seq.{take-all}
+use lib.Dec.{lit≤, eqb}
+use borrow.Author.Tests.{eqb-true, eqb-false, ltb-true, ltb-false}
+use Rattle.units.specs.declared.Found.the-variants.{At, Nothing}
+use Rattle.units.proofs.Looks.{by-test, by-order}
+use Rattle.layout.specs.declared.Geometry.{Geometry}
+use Rattle.layout.specs.Layout.{Layout, layoutOf, noChip, limits}
+use Rattle.layout.specs.Page.{Page, pageAt}
+use Rattle.layout.specs.Record.{Record, recordAt}
+use Rattle.layout.specs.Collection.{Collection, collectionAt}
+use Rattle.layout.specs.Images.{Images, lengths}
+use Rattle.layout.proofs.Limits.{Within, within}
+use Rattle.stores.specs.declared.Counts.{Counts}
+use Rattle.stores.specs.Steps.{Step, made, isCut, applyAll}
+use Rattle.stores.proofs.Prefixes.{Every, every-nil}
+use Rattle.rules.specs.declared.Check.{Check}
+use Rattle.rules.specs.declared.Check.the-variants.{Passed, Failed}
+use Rattle.rules.specs.declared.Reading.the-variants.{Done as ReadDone}
+use Rattle.rules.specs.Sound.{recordsSound, chipSound}
+use Rattle.rules.specs.Refusals.{recordsCheck, sparesCheck, openCheck, writeCheck, commitCheck, collectCheck}
+use Rattle.rules.specs.Format.{formatSteps}
+use Rattle.rules.specs.Open.{openSteps}
+use Rattle.rules.specs.Collect.{victimOf, collectSteps}
+use Rattle.rules.specs.Place.{placeOf}
+use Rattle.rules.specs.Commit.{cheapest, commitSteps}
+use Rattle.rules.specs.Write.{commitOwed, lowestFreeSlot, writeSteps}
+use Rattle.rules.specs.Read.{fetch}
+use Rattle.rules.specs.Calls.{ReadOutcome, run, outcome, readCall, writeCall}
+use Rattle.rules.specs.Book.{Verdict, done, cut, refused, verdict}
+use Rattle.rules.proofs.Fresh.{formatted}
+use Rattle.rules.proofs.FirstWrite.{lengths-are}
+use Rattle.rules.proofs.Statements.{Usable, RecordsSound, ChipSound, SoundBut, Sound, sound-chip}
+use Rattle.rules.proofs.Checks.{records-sound, records-pass, chip-sound, chip-pass, images-sound, lengths-pass, records-check-pass, spares-check-pass, fresh-sound}
+use Rattle.rules.proofs.Accepted.{open-accepted, read-passes, WriteAccepted, write-accepted, write-passes, commit-accepted, collect-accepted}
+use Rattle.rules.proofs.Kept.{CopiesOf}
+use Rattle.rules.proofs.Carries.{Carries, Wrote}
+use Rattle.rules.proofs.Room.{victim-found, free-slot, stripe-to-commit}
+use Rattle.rules.proofs.Collecting.{still, collect-leads}
+use Rattle.rules.proofs.Lists.{open-lost, open-every, collect-every, commit-every, write-ends, write-every}
+use Rattle.rules.proofs.Invariant.{no-copies}
+use Rattle.rules.proofs.CutRule.{CutRules, cut-rules}
+use Rattle.rules.specs.Demand.{Demand3}
+use Rattle.rules.proofs.Demand.{demand-3}
+
+-- what tells verdicts apart
+abbrev rank : Verdict → ℕ
+rank done = 0
+rank cut = 1
+rank refused = 2
+
+module _ (l : Layout) where
+  open Layout l using (N, W, S)
+
+  -- Tests and statements: the checks of rows 4 and 5 pass exactly where the statements hold.
+  pub record TestsAreStatements : Type 0 where
+    pub records : (r : ℕ → Record) (co : Collection) → (recordsSound l r co ≡ true) ↔ RecordsSound l r co
+    pub chip : (r : ℕ → Record) (x : ℕ → Page) (c : ℕ) (co : Collection) → (chipSound l r x c co ≡ true) ↔ ChipSound l r x c co
+    pub images : (s : Images) (lost : ℕ)
+        → ((lengths l s ≡ true) × (recordsCheck l s ≡ true) × (sparesCheck l s lost ≡ true)) ↔ SoundBut l lost s
+
+  -- Soundness is kept: by every prefix of the list of every call that is not refused, and by a format's whole list.
+  pub record SoundnessKept : Type 0 where
+    pub format : (s : Images) → limits l ≡ true → lengths l s ≡ true → Sound l (applyAll l (formatSteps l) s)
+    pub open-call : (s : Images) (lost : ℕ) → openCheck l s lost ≡ Passed → Every l (SoundBut l lost) (openSteps l lost s) s
+    pub write : (s : Images) (lost page : ℕ) (xs : List ℕ) → writeCheck l s lost page xs ≡ Passed → Every l (Sound l) (writeSteps l page xs s) s
+    pub commit : (s : Images) (lost j : ℕ) → commitCheck l s lost j ≡ Passed → Every l (Sound l) (commitSteps l j s) s
+    pub collect : (s : Images) (lost c : ℕ) → collectCheck l s lost c ≡ Passed → Every l (Sound l) (collectSteps l c s) s
+
+  -- Room: in sound images at rest nothing is looked for in vain.
+  pub record RoomIn (s : Images) : Type 0 where
+    pub place : (c : ℕ) → c ≤ N → placeOf l (pageAt l (s .chips) c) ≡ Nothing
+        → (v : ℕ) × (victimOf l c (pageAt l (s .chips) c) (recordAt l (s .records)) ≡ At v)
+        × (p : ℕ) × (placeOf l (pageAt l (applyAll l (collectSteps l c s) s .chips) c) ≡ At p)
+    pub slot : (i : ℕ) × (lowestFreeSlot l (recordAt l (s .records)) ≡ At i)
+    pub stripe : (j : ℕ) → commitOwed l (recordAt l (s .records)) j ≡ true → (k : ℕ) × (cheapest l (recordAt l (s .records)) ≡ At k)
+    -- "No write is refused for want of space."
+    pub accepted : (page : ℕ) (xs : List ℕ) → page < N * S → length xs ≡ W → writeCheck l s noChip page xs ≡ Passed
+
+  -- the read of page i of images s that names no chip is done, and gives ys
+  abbrev pub Reads : Images → ℕ → List ℕ → Type 0
+  Reads s i ys =
+      (buffer : List ℕ) → length buffer ≡ W
+      → (n : Counts) × (_≡_ {A = ReadOutcome} (readCall l s noChip i buffer) (record { answer = ReadDone n; buffer = ys }))
+
+  -- page i of t reads as in s
+  abbrev pub ReadsAs : Images → Images → ℕ → Type 0
+  ReadsAs s t i = (ys : List ℕ) × Reads s i ys × Reads t i ys
+
+  -- Reading back: a write that is done put its data into its page, and every other page reads as before; one that is cut changed no page.
+  pub record ReadsBack (s : Images) (page : ℕ) (xs : List ℕ) (v : Verdict) (t : Images) : Type 0 where
+    pub here : v ≡ done → Reads t page xs
+    pub elsewhere : v ≡ done → (i : ℕ) → i < N * S → i ≢ page → ReadsAs s t i
+    pub cut-short : v ≡ cut → (i : ℕ) → i < N * S → ReadsAs s t i
+
+  pub tests-are-statements : TestsAreStatements
+  tests-are-statements = record {
+    records = λ r co. (records-sound l r co, records-pass l r co);
+    chip = λ r x c co. (chip-sound l r x c co, chip-pass l r x c co);
+    images = λ s lost. (
+      λ h. images-sound l s lost (h .0) (h .1) (h .2),
+      λ f. (lengths-pass l s lost f, records-check-pass l s lost f, spares-check-pass l s lost f),
+    );
+  }
+
+  -- The whole of it.
+  pub record Argument : Type 0 where
+    pub tests : TestsAreStatements
+    pub soundness : SoundnessKept
+    pub room : limits l ≡ true → (s : Images) → Sound l s → collectionAt l (s .records) .phase ≡ 0 → RoomIn s
+    pub reading-back : (s : Images) (lost page : ℕ) (xs : List ℕ) (a : ℕ)
+        → ReadsBack s page xs (verdict (writeCall l s lost page xs a .answer)) (writeCall l s lost page xs a .images)
+    pub cut-rule : CutRules l
+    pub demand-3 : Demand3 l
+
+module _ (l : Layout) (some : 1 ≤ l .D) (narrow : l .D ≤ 4) where
+  open Layout l using (N, W, S)
+
+  usable : Within l → Usable l
+  usable w = record { within = w; some = some; narrow = narrow }
+
+  open-kept : (s : Images) (lost : ℕ) → openCheck l s lost ≡ Passed → Every l (SoundBut l lost) (openSteps l lost s) s
+  open-kept s lost passed k =
+      let o = open-accepted l s lost passed in
+      by-test (eqb lost noChip)
+      (λ e.
+      let none-lost = eqb-true lost noChip e in
+      rw none-lost (open-every l (usable (o .within)) s (rw none-lost at (o .sound)) noChip k .sound))
+      (λ e. rw (open-lost l s lost (eqb-false lost noChip e)) (every-nil l (SoundBut l lost) s (o .sound) k))
+
+  pub soundness-kept : SoundnessKept l
+  soundness-kept = record {
+    format = λ s fit long.
+        let n = lengths-are l s long in
+        fresh-sound l (within l fit) (applyAll l (formatSteps l) s) (formatted l narrow some s (n .0) (n .1) (n .2));
+    open-call = open-kept;
+    write = λ s lost page xs passed.
+        let o = write-accepted l s lost page xs passed .1 in write-every l (usable (o .within)) s page xs o;
+    commit = λ s lost j passed k.
+        let o = commit-accepted l s lost j passed .1 in commit-every l (usable (o .within)) s j o k .sound;
+    collect = λ s lost c passed k.
+        let o = collect-accepted l s lost c passed .1 in collect-every l (usable (o .within)) s c o k .sound;
+  }
+
+  pub room-in : Within l → (s : Images) → Sound l s → collectionAt l (s .records) .phase ≡ 0 → RoomIn l s
+  room-in w s f rest = record {
+    place = λ c chip nowhere.
+        let chip′ : c < N + 1 = omega arith in
+        let (v, victim) =
+        victim-found l w (recordAt l (s .records)) (pageAt l (s .chips) c) c (collectionAt l (s .records)) chip′ (f .stripes) (sound-chip l (usable w) s f c chip′)
+        (still l (usable w) s c rest) nowhere in
+        let after = collect-leads l (usable w) s f rest c chip′ v victim .ends in
+        (v, victim, after .place, after .found);
+    slot = let free = free-slot l w (recordAt l (s .records)) (collectionAt l (s .records)) (f .stripes) in (free .0, free .1);
+    stripe = λ j owed. let least = stripe-to-commit l w (recordAt l (s .records)) j owed in (least .0, least .1);
+    accepted = λ page xs inside whole.
+        write-passes l s page xs (record { within = w; sound = f; at-rest = rest; page = inside; whole = whole });
+  }
+
+  sound-reads : Within l → (s : Images) → Sound l s → (i : ℕ) → i < N * S → Reads l s i (fetch l s noChip i .bytes)
+  unfolding readCall
+  sound-reads w s f i inside buffer whole = (
+    record { reads = fetch l s noChip i .reads; programs = 0; erases = 0; stores = 0 },
+    rw (read-passes l s noChip i buffer (record { within = w; named = refl; sound = f; page = inside; whole = whole })),
+  )
+
+  -- pages that are fetched alike read alike
+  read-as : Within l → (s t : Images) → Sound l s → Sound l t → (i : ℕ) → i < N * S → fetch l t noChip i .bytes ≡ fetch l s noChip i .bytes → ReadsAs l s t i
+  read-as w s t f g i inside e = (fetch l s noChip i .bytes, sound-reads w s f i inside, rw e at (sound-reads w t g i inside))
+
+  module _ (s : Images) (page : ℕ) (xs : List ℕ) where
+    refused-back : ReadsBack l s page xs refused s
+    refused-back = record {
+      here = λ e. absurd (omega (arith, ap rank e));
+      elsewhere = λ e. absurd (omega (arith, ap rank e));
+      cut-short = λ e. absurd (omega (arith, ap rank e));
+    }
+
+    module _ (o : WriteAccepted l s page xs) where
+      cut-back : (a : ℕ) → a < length (writeSteps l page xs s) → ReadsBack l s page xs cut (applyAll l (made a (writeSteps l page xs s)) s)
+      cut-back a less =
+          let c = write-ends l (usable (o .within)) s page xs o .cut a less in
+          record {
+            here = λ e. absurd (omega (arith, ap rank e));
+            elsewhere = λ e. absurd (omega (arith, ap rank e));
+            cut-short = λ e i inside.
+                read-as (o .within) s (applyAll l (made a (writeSteps l page xs s)) s) (o .sound) (c .sound) i inside (c .reads (no-copies l s (o .at-rest)) i inside);
+          }
+
+      done-back : ReadsBack l s page xs done (applyAll l (writeSteps l page xs s) s)
+      done-back =
+          let t = applyAll l (writeSteps l page xs s) s in
+          let w = write-ends l (usable (o .within)) s page xs o .whole in
+          record {
+            here = λ e. rw (w .here) at (sound-reads (o .within) t (w .sound) page (o .page));
+            elsewhere = λ e i inside other.
+                read-as (o .within) s t (o .sound) (w .sound) i inside (w .elsewhere (no-copies l s (o .at-rest)) i inside other);
+            cut-short = λ e. absurd (omega (arith, ap rank e));
+          }
+
+    reads-back-by : (check : Check) (a : ℕ) → (check ≡ Passed → WriteAccepted l s page xs)
+        → ReadsBack l s page xs (verdict (outcome l check a (writeSteps l page xs) s .answer)) (outcome l check a (writeSteps l page xs) s .images)
+    unfolding run
+    reads-back-by Passed a o = by-test (isCut a (writeSteps l page xs s))
+        (λ e. rw e (cut-back (o refl) a (ltb-true a (length (writeSteps l page xs s)) e)))
+        (λ e. rw (e, take-all a (writeSteps l page xs s) (ltb-false a (length (writeSteps l page xs s)) e)) (done-back (o refl)))
+    reads-back-by (Failed r) a o = refused-back
+
+  -- from any sound images: a write that is not refused has been given some
+  pub reads-back : (s : Images) (lost page : ℕ) (xs : List ℕ) (a : ℕ)
+      → ReadsBack l s page xs (verdict (writeCall l s lost page xs a .answer)) (writeCall l s lost page xs a .images)
+  unfolding writeCall
+  reads-back s lost page xs a = reads-back-by s page xs (writeCheck l s lost page xs) a (λ passed. write-accepted l s lost page xs passed .1)
+
+  pub argument-of : Argument l
+  argument-of = record {
+    tests = tests-are-statements l;
+    soundness = soundness-kept;
+    room = λ fit. room-in (within l fit);
+    reading-back = reads-back;
+    cut-rule = cut-rules l;
+    demand-3 = demand-3 l some narrow;
+  }
+
+-- for every geometry of document 01, whose page numbers take two bytes
+pub argument : (g : Geometry) → Argument (layoutOf g)
+argument g = argument-of (layoutOf g) (lit≤ tt) (lit≤ tt)
