@@ -1,12 +1,14 @@
 -- The parity and the members of a stripe stand on the N + 1 chips, one on each.
-use Prim.Native.Nat.{ℕ, _+_, _-_, _≤_, _<_}
+use Prim.Native.Nat.{ℕ, _+_, _-_, _≤_, _<_, _*_}
 use native.Mathlib.Decide.{decLt}
 use native.Mathlib.Omega.{arith}
-use mathlib.Core.Path.{_≡_}
+use native.Mathlib.Nat.{div-lt-iff-lt-mul, mul-comm, mod-lt}
+use mathlib.Core.Path.{_≡_, sym, ap, _∙_}
 use mathlib.Core.Logic.{_≢_}
 use borrow.Author.Tests.{lt-ltb, le-ltb}
-use Rattle.layout.specs.Layout.{Layout}
-use Rattle.layout.specs.Rotation.{parityChip, memberChip, memberOn}
+use Rattle.layout.specs.Layout.{Layout, noChip}
+use Rattle.layout.specs.Rotation.{parityChip, memberChip, memberOn, memberOf, stripeOf}
+use Rattle.layout.proofs.Limits.{Within}
 
 module _ (l : Layout) (j : ℕ) where
   open Layout l using (N)
@@ -61,3 +63,27 @@ module _ (l : Layout) (j : ℕ) where
     | yes b ↦ rw (low-member c b) (omega (arith, parity-chip-fits))
     | no b ↦ rw (high-member c (omega arith)) (omega (arith, d))
   ]
+
+  -- two members are on two chips, and two chips have two members
+  pub other-member-chip : (m k : ℕ) → k ≢ m → memberChip l j k ≢ memberChip l j m
+  other-member-chip m k d e = d (sym (member-of-chip k) ∙ ap (memberOn l j) e ∙ member-of-chip m)
+
+  pub other-chip-member : (c c′ : ℕ) → c ≢ parityChip l j → c′ ≢ parityChip l j → c′ ≢ c → memberOn l j c′ ≢ memberOn l j c
+  other-chip-member c c′ h h′ d e = d (sym (chip-of-member c′ h′) ∙ ap (memberChip l j) e ∙ chip-of-member c h)
+
+module _ (l : Layout) (w : Within l) where
+  open Layout l using (N, S)
+
+  -- no member is on the chip that stands for none
+  pub chip-there : (j m : ℕ) → m < N → memberChip l j m ≢ noChip
+  chip-there j m h = omega (arith, w .members-high, member-chip-fits l j m h)
+
+  -- the stripe and the member of a page
+  members : 0 < N
+  members = omega (arith, w .members-low)
+
+  pub stripe-fits : (i : ℕ) → i < N * S → stripeOf l i < S
+  stripe-fits i page = div-lt-iff-lt-mul members .1 (rw mul-comm at page)
+
+  pub member-fits : (i : ℕ) → memberOf l i < N
+  member-fits i = mod-lt i members

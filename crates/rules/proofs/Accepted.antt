@@ -1,4 +1,4 @@
--- What a call that passes its checks may rely on, and that nothing more is asked of it.
+-- What a call that passes its checks may rely on; and of a read and a write, that nothing more is asked.
 use Prim.Native.Nat.{ℕ, _+_, _*_, _<_}
 use native.Mathlib.Omega.{arith}
 use mathlib.Core.Path.{_≡_, refl, ap, _∙_}
@@ -7,30 +7,29 @@ use mathlib.Core.Bool.{Bool, true, false}
 use mathlib.Core.List.{List, [], _∷_}
 use lib.ListN.{length}
 use lib.Dec.{leb, ltb, eqb}
-use borrow.Author.Tests.{ltb-true, leb-true, eqb-true, lt-ltb, le-leb, eq-eqb}
+use borrow.Author.Tests.{ltb-true, leb-true, eqb-true, lt-ltb, eq-eqb}
 use Rattle.units.specs.Look.{whenFound}
 use Rattle.units.specs.declared.Found.{Found}
-use Rattle.units.specs.declared.Found.the-variants.{At, Nothing}
-use Rattle.units.proofs.Looks.{both}
+use Rattle.units.specs.declared.Found.the-variants.{At}
+use Rattle.units.proofs.Looks.{both, when-found}
 use Rattle.layout.specs.Layout.{Layout, noChip, limits}
 use Rattle.layout.specs.Page.{pageAt}
 use Rattle.layout.specs.Record.{hasSlot, recordAt}
 use Rattle.layout.specs.Collection.{collectionAt}
 use Rattle.layout.specs.Images.{Images, lengths}
-use Rattle.layout.proofs.Limits.{Within, limited}
-use Rattle.layout.proofs.Limits.{within as in-limits}
+use Rattle.layout.proofs.Limits.{Within, limited, within as in-limits}
 use Rattle.rules.specs.Collect.{victimOf}
 use Rattle.rules.specs.declared.Refusal.{Refusal}
 use Rattle.rules.specs.declared.Refusal.the-variants.{Geometry, Buffers, LostChip, Records, Spares, Collection, Request, Data, ChipSet, Work}
 use Rattle.rules.specs.declared.Check.{Check}
 use Rattle.rules.specs.declared.Check.the-variants.{Passed, Failed}
-use Rattle.rules.specs.Refusals.{unless, lostNamed, recordsCheck, sparesCheck, atRest, buffersCheck, imagesCheck}
-use Rattle.rules.specs.Refusals.{openCheck, readCheck, writeCheck, commitCheck, collectCheck}
+use Rattle.rules.specs.Refusals.{unless, lostNamed, recordsCheck, sparesCheck, atRest, buffersCheck, imagesCheck, openCheck, readCheck, writeCheck, commitCheck}
+use Rattle.rules.specs.Refusals.{collectCheck}
 use Rattle.rules.proofs.Statements.{SoundBut, Sound}
 use Rattle.rules.proofs.Checks.{images-sound, lengths-pass, records-check-pass, spares-check-pass}
 
 -- the cases of a check
-pub by-check {ℓ} : {P : Type ℓ} (k : Check) → (k ≡ Passed → P) → ((r : Refusal) → k ≡ Failed r → P) → P
+by-check {ℓ} : {P : Type ℓ} (k : Check) → (k ≡ Passed → P) → ((r : Refusal) → k ≡ Failed r → P) → P
 by-check Passed passed failed = passed refl
 by-check (Failed r) passed failed = failed r refl
 
@@ -57,11 +56,6 @@ rows-passed : (rows : Table) (below : Check) → checked rows below ≡ Passed �
 rows-passed [] below e = (tt, e)
 rows-passed ((true, r) ∷ rows) below e = let h = rows-passed rows below e in ((refl, h .0), h .1)
 rows-passed ((false, r) ∷ rows) below e = not-passed r e
-
-found : (f : Found) → whenFound f (λ b. true) false ≡ true → (b : ℕ) × (f ≡ At b)
-unfolding whenFound
-found (At b) e = (b, refl)
-found Nothing e = both false e refl
 
 module _ (l : Layout) where
   open Layout l using (N, W, S)
@@ -104,14 +98,14 @@ module _ (l : Layout) where
   imagesRows s lost =
       (limits l, Geometry) ∷ (lengths l s, Buffers) ∷ (lostNamed l lost, LostChip) ∷ (recordsCheck l s, Records) ∷ (sparesCheck l s lost, Spares) ∷ []
 
-  pub images-passed : (s : Images) (lost : ℕ) (below : Check) → imagesCheck l s lost below ≡ Passed
-      → (limits l ≡ true) × (lostNamed l lost ≡ true) × SoundBut l lost s × (below ≡ Passed)
+  images-passed : (s : Images) (lost : ℕ) (rows : Table) → imagesCheck l s lost (checked rows Passed) ≡ Passed
+      → Within l × (lostNamed l lost ≡ true) × SoundBut l lost s × Holds rows
   unfolding imagesCheck buffersCheck
-  images-passed s lost below e =
-      let (h, rest) = rows-passed (imagesRows s lost) below e in
-      (h .0, h .1 .1 .0, images-sound l s lost (h .1 .0) (h .1 .1 .1 .0) (h .1 .1 .1 .1 .0), rest)
+  images-passed s lost rows e =
+      let (h, rest) = rows-passed (imagesRows s lost) (checked rows Passed) e in
+      (in-limits l (h .0), h .1 .1 .0, images-sound l s lost (h .1 .0) (h .1 .1 .1 .0) (h .1 .1 .1 .1 .0), rows-passed rows Passed rest .0)
 
-  pub images-pass : Within l → (s : Images) (lost : ℕ) → lostNamed l lost ≡ true → SoundBut l lost s → (below : Check) → imagesCheck l s lost below ≡ below
+  images-pass : Within l → (s : Images) (lost : ℕ) → lostNamed l lost ≡ true → SoundBut l lost s → (below : Check) → imagesCheck l s lost below ≡ below
   unfolding imagesCheck buffersCheck
   images-pass w s lost named h below =
       rw (limited l w, lengths-pass l s lost h, named, records-check-pass l s lost h, spares-check-pass l s lost h)
@@ -120,29 +114,12 @@ module _ (l : Layout) where
   pub open-accepted : (s : Images) (lost : ℕ) → openCheck l s lost ≡ Passed → OpenAccepted s lost
   unfolding openCheck
   open-accepted s lost e =
-      let (fit, named, sound, _) = images-passed s lost Passed e in
-      record { within = in-limits l fit; named = named; sound = sound }
-
-  pub open-passes : (s : Images) (lost : ℕ) → OpenAccepted s lost → openCheck l s lost ≡ Passed
-  unfolding openCheck
-  open-passes s lost h = images-pass (h .within) s lost (h .named) (h .sound) Passed
+      let (fit, named, sound, _) = images-passed s lost [] e in
+      record { within = fit; named = named; sound = sound }
 
   -- read
   abbrev readRows : ℕ → List ℕ → Table
   readRows page buffer = (ltb page (N * S), Request) ∷ (eqb (length buffer) W, Data) ∷ []
-
-  pub read-accepted : (s : Images) (lost page : ℕ) (buffer : List ℕ) → readCheck l s lost page buffer ≡ Passed → ReadAccepted s lost page buffer
-  unfolding readCheck
-  read-accepted s lost page buffer e =
-      let (fit, named, sound, rest) = images-passed s lost (checked (readRows page buffer) Passed) e in
-      let (h, _) = rows-passed (readRows page buffer) Passed rest in
-      record {
-        within = in-limits l fit;
-        named = named;
-        sound = sound;
-        page = ltb-true page (N * S) (h .0);
-        whole = eqb-true (length buffer) W (h .1 .0);
-      }
 
   pub read-passes : (s : Images) (lost page : ℕ) (buffer : List ℕ) → ReadAccepted s lost page buffer → readCheck l s lost page buffer ≡ Passed
   unfolding readCheck
@@ -151,8 +128,8 @@ module _ (l : Layout) where
       ∙ rw (lt-ltb page (N * S) (h .page), eq-eqb (length buffer) W (h .whole))
 
   -- what write, commit and collect share: no collection is under way, and no chip is lost
-  still : (s : Images) → atRest l s ≡ true → collectionAt l (s .records) .phase ≡ 0
-  still s = eqb-true (collectionAt l (s .records) .phase) 0
+  rests : (s : Images) → atRest l s ≡ true → collectionAt l (s .records) .phase ≡ 0
+  rests s = eqb-true (collectionAt l (s .records) .phase) 0
 
   whole-set : (s : Images) (lost : ℕ) → eqb lost noChip ≡ true → SoundBut l lost s → (lost ≡ noChip) × Sound l s
   whole-set s lost t h = let e = eqb-true lost noChip t in (e, rw e at h)
@@ -164,14 +141,13 @@ module _ (l : Layout) where
   pub write-accepted : (s : Images) (lost page : ℕ) (xs : List ℕ) → writeCheck l s lost page xs ≡ Passed → (lost ≡ noChip) × WriteAccepted s page xs
   unfolding writeCheck
   write-accepted s lost page xs e =
-      let (fit, named, but, rest) = images-passed s lost (checked (writeRows s lost page xs) Passed) e in
-      let (h, _) = rows-passed (writeRows s lost page xs) Passed rest in
+      let (fit, named, but, h) = images-passed s lost (writeRows s lost page xs) e in
       let (none-lost, sound) = whole-set s lost (h .1 .1 .1 .0) but in (
         none-lost,
         record {
-          within = in-limits l fit;
+          within = fit;
           sound = sound;
-          at-rest = still s (h .0);
+          at-rest = rests s (h .0);
           page = ltb-true page (N * S) (h .1 .0);
           whole = eqb-true (length xs) W (h .1 .1 .0);
         },
@@ -190,24 +166,17 @@ module _ (l : Layout) where
   pub commit-accepted : (s : Images) (lost j : ℕ) → commitCheck l s lost j ≡ Passed → (lost ≡ noChip) × CommitAccepted s j
   unfolding commitCheck
   commit-accepted s lost j e =
-      let (fit, named, but, rest) = images-passed s lost (checked (commitRows s lost j) Passed) e in
-      let (h, _) = rows-passed (commitRows s lost j) Passed rest in
+      let (fit, named, but, h) = images-passed s lost (commitRows s lost j) e in
       let (none-lost, sound) = whole-set s lost (h .1 .1 .0) but in (
         none-lost,
         record {
-          within = in-limits l fit;
+          within = fit;
           sound = sound;
-          at-rest = still s (h .0);
+          at-rest = rests s (h .0);
           stripe = ltb-true j S (h .1 .0);
           slot = h .1 .1 .1 .0;
         },
       )
-
-  pub commit-passes : (s : Images) (j : ℕ) → CommitAccepted s j → commitCheck l s noChip j ≡ Passed
-  unfolding commitCheck
-  commit-passes s j h =
-      images-pass (h .within) s noChip refl (h .sound) (checked (commitRows s noChip j) Passed)
-      ∙ rw (h .at-rest, lt-ltb j S (h .stripe), h .slot)
 
   -- collect
   abbrev victim : Images → ℕ → Found
@@ -219,24 +188,17 @@ module _ (l : Layout) where
   pub collect-accepted : (s : Images) (lost c : ℕ) → collectCheck l s lost c ≡ Passed → (lost ≡ noChip) × CollectAccepted s c
   unfolding collectCheck
   collect-accepted s lost c e =
-      let (fit, named, but, rest) = images-passed s lost (checked (collectRows s lost c) Passed) e in
-      let (h, _) = rows-passed (collectRows s lost c) Passed rest in
+      let (fit, named, but, h) = images-passed s lost (collectRows s lost c) e in
       let (none-lost, sound) = whole-set s lost (h .1 .1 .0) but in (
         none-lost,
         record {
-          within = in-limits l fit;
+          within = fit;
           sound = sound;
-          at-rest = still s (h .0);
+          at-rest = rests s (h .0);
           chip = omega (arith, leb-true c N (h .1 .0));
-          victim = found (victim s c) (h .1 .1 .1 .0);
+          victim = when-found (victim s c) (h .1 .1 .1 .0);
         },
       )
-
-  pub collect-passes : (s : Images) (c : ℕ) → CollectAccepted s c → collectCheck l s noChip c ≡ Passed
-  unfolding collectCheck whenFound
-  collect-passes s c h =
-      images-pass (h .within) s noChip refl (h .sound) (checked (collectRows s noChip c) Passed)
-      ∙ rw (h .at-rest, le-leb c N (omega (arith, h .chip)), h .victim .1)
 
   -- with a chip named, nothing is stored
   pub lost-refused-write : (s : Images) (lost page : ℕ) (xs : List ℕ) → lost ≢ noChip → (r : Refusal) × (writeCheck l s lost page xs ≡ Failed r)

@@ -3,27 +3,26 @@ use Prim.Native.Nat.{ℕ, _+_, _*_, _<_}
 use native.Mathlib.Decide.{ℕ-discrete}
 use mathlib.Core.Path.{_≡_, refl, sym, ap, _∙_}
 use mathlib.Core.Logic.{_≢_}
-use mathlib.Core.Bool.{true, not}
+use mathlib.Core.Bool.{true}
 use mathlib.Core.List.{List}
-use lib.Dec.{eqb}
 use borrow.Author.Tests.{eq-eqb, eqb-true}
 use Rattle.units.proofs.Looks.{by-test}
 use Rattle.layout.specs.Layout.{Layout, noChip, none}
 use Rattle.layout.specs.Rotation.{parityChip, memberChip, memberOf, stripeOf}
 use Rattle.layout.specs.Page.{Page, pageAt}
-use Rattle.layout.specs.Record.{Record, bit, noSlot, hasSlot, recordAt}
+use Rattle.layout.specs.Record.{Record, bit, hasSlot, recordAt}
 use Rattle.layout.specs.Images.{Images, slotAt}
 use Rattle.layout.proofs.Limits.{Within}
-use Rattle.layout.proofs.Rotations.{parity-chip-fits, member-chip-fits}
+use Rattle.layout.proofs.Rotations.{parity-chip-fits, member-chip-fits, stripe-fits, member-fits}
+use Rattle.layout.proofs.Records.{same-bit, same-slotted}
 use Rattle.rules.specs.Names.{mainNumber, sideNumber}
 use Rattle.rules.specs.Gather.{bytesAt}
-use Rattle.rules.specs.Commit.{currentOutside, oldInside}
-use Rattle.rules.specs.Read.{fetch}
+use Rattle.rules.specs.Commit.{currentOutside, oldInside, newParity}
+use Rattle.rules.specs.Read.{Fetched, fetch}
 use Rattle.rules.proofs.Statements.{Usable, Sound}
 use Rattle.rules.proofs.Names.{main-member, side-member, main-parity}
 use Rattle.rules.proofs.Contents.{currentInside, underParity, StripeData, Data, bytes-none, bytes-page, gathered-cong}
-use Rattle.rules.proofs.Parity.{parityAfter}
-use Rattle.rules.proofs.Rebuild.{fetch-unwritten, fetch-direct, stripe-fits, member-fits}
+use Rattle.rules.proofs.Rebuild.{fetch-unwritten, fetch-direct}
 use Rattle.rules.proofs.Kept.{CopiesOf, Same, Kept}
 
 module _ (l : Layout) where
@@ -44,6 +43,7 @@ module _ (l : Layout) where
     pub here : fetch l t noChip p .bytes ≡ xs
     pub elsewhere : CopiesOf l s → (i : ℕ) → i < N * S → i ≢ p → fetch l t noChip i .bytes ≡ fetch l s noChip i .bytes
 
+  -- nothing lost in no stores, and in one list of stores after another
   pub carries-refl : (s : Images) → Sound l s → Carries s s
   carries-refl s f = record { sound = f; copies = λ c. c; data-too = λ c d. d; reads = λ c i h. refl }
 
@@ -68,10 +68,6 @@ module _ (l : Layout) where
   module _ (y y′ : ℕ → ℕ → Page) (j : ℕ) (r r′ : Record) (bits : r′ .bitmap ≡ r .bitmap)
       (main : (c : ℕ) → c < N + 1 → bytesAt l y′ c (mainNumber l c j r′) ≡ bytesAt l y c (mainNumber l c j r))
       (side : (c : ℕ) → c < N + 1 → bytesAt l y′ c (sideNumber l c j r′) ≡ bytesAt l y c (sideNumber l c j r)) where
-    bit-kept : (m : ℕ) → bit r′ m ≡ bit r m
-    unfolding bit
-    bit-kept m = rw bits
-
     parity-kept : bytesAt l y′ (parityChip l j) (r′ .parity) ≡ bytesAt l y (parityChip l j) (r .parity)
     parity-kept = rw (main-parity l j r′, main-parity l j r) at (main (parityChip l j) (parity-chip-fits l j))
 
@@ -79,7 +75,7 @@ module _ (l : Layout) where
       abbrev SameBytes : ℕ → ℕ → Type 0
       SameBytes p p′ = bytesAt l y′ (memberChip l j m) p′ ≡ bytesAt l y (memberChip l j m) p
 
-      pub current-kept : SameBytes (r .current m) (r′ .current m)
+      current-kept : SameBytes (r .current m) (r′ .current m)
       current-kept = rw (main-member l j m r′, main-member l j m r) at (main (memberChip l j m) (member-chip-fits l j m h))
 
       old-kept : SameBytes (r .old m) (r′ .old m)
@@ -90,25 +86,25 @@ module _ (l : Layout) where
 
       inside-kept : SameBytes (currentInside l r m) (currentInside l r′ m)
       unfolding currentInside
-      inside-kept = rw (bit-kept m) (by-test (bit r m) (λ t. rw t current-kept) (λ t. rw t none-kept))
+      inside-kept = rw (same-bit r r′ bits m) (by-test (bit r m) (λ t. rw t current-kept) (λ t. rw t none-kept))
 
       outside-kept : SameBytes (currentOutside l r m) (currentOutside l r′ m)
       unfolding currentOutside
-      outside-kept = rw (bit-kept m) (by-test (bit r m) (λ t. rw t none-kept) (λ t. rw t current-kept))
+      outside-kept = rw (same-bit r r′ bits m) (by-test (bit r m) (λ t. rw t none-kept) (λ t. rw t current-kept))
 
       old-inside-kept : SameBytes (oldInside l r m) (oldInside l r′ m)
       unfolding oldInside
-      old-inside-kept = rw (bit-kept m) (by-test (bit r m) (λ t. rw t old-kept) (λ t. rw t none-kept))
+      old-inside-kept = rw (same-bit r r′ bits m) (by-test (bit r m) (λ t. rw t old-kept) (λ t. rw t none-kept))
 
       under-parity-kept : SameBytes (underParity l r m) (underParity l r′ m)
       unfolding underParity
-      under-parity-kept = rw (bit-kept m) (by-test (bit r m) (λ t. rw t old-kept) (λ t. rw t current-kept))
+      under-parity-kept = rw (same-bit r r′ bits m) (by-test (bit r m) (λ t. rw t old-kept) (λ t. rw t current-kept))
 
     module _ (z z′ : ℕ → List ℕ) (slot : r′ .slot ≡ r .slot) (memory : hasSlot r ≡ true → z′ (r .slot) ≡ z (r .slot)) where
-      pub stripe-kept : StripeData l y z j r → StripeData l y′ z′ j r′
+      stripe-kept : StripeData l y z j r → StripeData l y′ z′ j r′
       stripe-kept d = record {
         partial = λ t.
-            let had = ap (λ (i : ℕ). not (eqb i noSlot)) (sym slot) ∙ t in
+            let had = sym (same-slotted r r′ slot) ∙ t in
             ap z′ slot
             ∙ memory had
             ∙ d .partial had
@@ -120,7 +116,8 @@ module _ (l : Layout) where
   pub new-parity-kept : (y y′ : ℕ → ℕ → Page) (j : ℕ) (r : Record)
       → ((c : ℕ) → c < N + 1 → bytesAt l y′ c (mainNumber l c j r) ≡ bytesAt l y c (mainNumber l c j r))
       → ((c : ℕ) → c < N + 1 → bytesAt l y′ c (sideNumber l c j r) ≡ bytesAt l y c (sideNumber l c j r))
-      → (z z′ : ℕ → List ℕ) → z′ (r .slot) ≡ z (r .slot) → parityAfter l y′ z′ j r ≡ parityAfter l y z j r
+      → (z z′ : ℕ → List ℕ) → z′ (r .slot) ≡ z (r .slot) → newParity l y′ z′ j r ≡ newParity l y z j r
+  unfolding newParity
   new-parity-kept y y′ j r main side z z′ memory =
       rw (
         memory,
@@ -140,17 +137,18 @@ module _ (l : Layout) where
       let p′ = recordAt l (t .records) (stripeOf l i) .current (memberOf l i) in
       elim (ℕ-discrete p (none l)) [
         | yes e ↦
-            fetch-unwritten l t noChip i (eqb-true p′ (none l) (same .none-too ∙ eq-eqb p (none l) e))
-            ∙ sym (fetch-unwritten l s noChip i e)
+            ap (λ (x : Fetched). x .bytes)
+            (fetch-unwritten l t noChip i (eqb-true p′ (none l) (same .none-too ∙ eq-eqb p (none l) e)) ∙ sym (fetch-unwritten l s noChip i e))
         | no d ↦
             let d′ : p′ ≢ none l = λ e. d (eqb-true p (none l) (sym (same .none-too) ∙ eq-eqb p′ (none l) e)) in
-            fetch-direct l w t i d′
+            ap (λ (x : Fetched). x .bytes) (fetch-direct l w t i d′)
             ∙ sym (bytes-page l (pageAt l (t .chips)) c p′ d′)
             ∙ same .bytes
             ∙ bytes-page l (pageAt l (s .chips)) c p d
-            ∙ sym (fetch-direct l w s i d)
+            ∙ sym (ap (λ (x : Fetched). x .bytes) (fetch-direct l w s i d))
       ]
 
+  -- what keeps every number's bytes keeps both groups and every read
   pub kept-carries : Usable l → (s t : Images) → Kept l s t → Carries s t
   kept-carries u s t k = record {
     sound = k .sound;

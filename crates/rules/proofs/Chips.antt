@@ -5,29 +5,30 @@ use native.Mathlib.Omega.{arith}
 use mathlib.Core.Path.{_≡_, refl, sym, _∙_}
 use mathlib.Core.Logic.{_≢_}
 use mathlib.Core.Bool.{true, false}
-use lib.ListN.{getD-replicate}
-use lib.Dec.{eqb}
-use borrow.Author.Tests.{eqb-true, eqb-false, not-true}
+use borrow.Author.Tests.{eqb-true}
 use Rattle.units.specs.Look.{countBelow}
 use Rattle.units.specs.Update.{at}
 use Rattle.units.proofs.Looks.{by-test, both, all-true, all-at}
 use Rattle.units.proofs.Numbers.{pow-positive}
-use Rattle.units.proofs.Updates.{at-same, at-other}
-use Rattle.layout.specs.Layout.{Layout, none, pageIn, inBlock, pageBytes, recordBytes}
-use Rattle.layout.specs.Page.{Page, cleanKind, clean, pageOf}
-use Rattle.layout.specs.Record.{Record, noSlot, hasSlot, slotted, restBytes}
+use Rattle.units.proofs.Updates.{at-same, at-other, by-at}
+use Rattle.units.proofs.Tests.{differ}
+use Rattle.layout.specs.Layout.{Layout, none, pageIn, inBlock, recordBytes}
+use Rattle.layout.specs.Page.{Page, cleanKind, clean}
+use Rattle.layout.specs.Record.{Record, noSlot, slotted, restBytes}
 use Rattle.layout.specs.Collection.{Collection}
 use Rattle.layout.proofs.Codec.{RecordFits, CollectionFits}
-use Rattle.stores.proofs.View.{erasedPage, wiped}
+use Rattle.layout.proofs.Records.{SixMembers}
+use Rattle.layout.proofs.Pages.{same-place, in-own-block, in-other-block, place-in}
+use Rattle.stores.proofs.View.{wiped, erased-clean}
 use Rattle.rules.specs.Names.{mainNumber, sideNumber, names, named}
 use Rattle.rules.specs.Blocks.{cleanIn, cleanBlock}
 use Rattle.rules.specs.Sound.{collecting}
 use Rattle.rules.proofs.Statements.{Usable, Numbered, RecordSound, CollectionSound, RecordsSound, Tagged, OneTwin, ChipSound}
 use Rattle.rules.proofs.Fresh.{none-fits}
-use Rattle.rules.proofs.Names.{same-place, in-own-block, in-other-block, place-in, main-names, side-names, name-named, name-tagged, named-used}
+use Rattle.rules.proofs.Names.{main-names, side-names, name-named, name-tagged, named-used}
 
 module _ (l : Layout) where
-  open Layout l using (W, K, B, S, M, D)
+  open Layout l using (K, B, S, M, D)
 
   -- what is sound fits its fields
   module _ (u : Usable l) where
@@ -37,7 +38,7 @@ module _ (l : Layout) where
       | no d ↦ omega (arith, h d, u .within .pages-numbered, none-fits l)
     ]
 
-    pub record-fits : (r : Record) → RecordSound l r → ((m : ℕ) → 6 ≤ m → (r .current m ≡ none l) × (r .old m ≡ none l)) → RecordFits l r
+    pub record-fits : (r : Record) → RecordSound l r → SixMembers l r → RecordFits l r
     record-fits r f beyond = record {
       current = λ m h. number-fits (r .current m) (f .member m h .current);
       old = λ m h. number-fits (r .old m) (f .member m h .old);
@@ -65,27 +66,22 @@ module _ (l : Layout) where
     module _ (j : ℕ) (r′ : Record) (g : RecordSound l r′)
         (own : r′ .slot ≢ noSlot → (i : ℕ) → i < S → i ≢ j → r i .slot ≢ r′ .slot) (few : countBelow S (slotted (at j r′ r)) ≤ M) where
       record-sound : (i : ℕ) → i < S → RecordSound l (at j r′ r i)
-      record-sound i h = elim (ℕ-discrete i j) [
-        | yes e ↦ rw (e, at-same j r′ r) g
-        | no d ↦ rw (at-other j r′ r i d) (f .stripe i h)
-      ]
-
-      has-slot : (a : Record) → hasSlot a ≡ true → a .slot ≢ noSlot
-      has-slot a t = eqb-false (a .slot) noSlot (not-true (eqb (a .slot) noSlot) t)
+      record-sound i h = by-at j r′ r i (λ e n. rw n g) (λ d n. rw n (f .stripe i h))
 
       own-after : (i k : ℕ) → i < k → k < S → slotted (at j r′ r) k ≡ true → at j r′ r i .slot ≢ at j r′ r k .slot
       own-after i k h below t = elim (ℕ-discrete k j) [
         | yes e ↦
-            rw (e, at-same j r′ r, at-other j r′ r i (omega arith)) (own (has-slot r′ (rw (e, at-same j r′ r) at t)) i (omega arith) (omega arith))
+            rw (e, at-same j r′ r, at-other j r′ r i (omega arith)) (own (differ (r′ .slot) noSlot (rw (e, at-same j r′ r) at t)) i (omega arith) (omega arith))
         | no d ↦
             let was : slotted r k ≡ true = rw (at-other j r′ r k d) at t in
             rw (at-other j r′ r k d)
             (elim (ℕ-discrete i j) [
-              | yes e ↦ rw (e, at-same j r′ r) (λ q. own (λ n. has-slot (r k) was (sym q ∙ n)) k below d (sym q))
+              | yes e ↦ rw (e, at-same j r′ r) (λ q. own (λ n. differ (r k .slot) noSlot was (sym q ∙ n)) k below d (sym q))
               | no d′ ↦ rw (at-other j r′ r i d′) (f .own i k h below was)
             ])
       ]
 
+      -- the records after it
       pub records-keep : RecordsSound l (at j r′ r) co
       records-keep = record { stripe = record-sound; own = own-after; few = few; collection = f .collection }
 
@@ -93,10 +89,19 @@ module _ (l : Layout) where
     pub collection-records-keep : (co′ : Collection) → CollectionSound l co′ → RecordsSound l r co′
     collection-records-keep co′ g = record { stripe = f .stripe; own = f .own; few = f .few; collection = g }
 
-  -- general
-  pub erased-clean : clean (erasedPage l) ≡ true
-  unfolding erasedPage pageOf
-  erased-clean = rw (getD-replicate {A = ℕ} (pageBytes l) W 255 0 (omega arith))
+  -- a block that is erased is wholly clean, and the pages of the others stay
+  module _ (b : ℕ) (x : ℕ → Page) where
+    wiped-own : (i : ℕ) → i < K → cleanIn l (wiped l b x) b i ≡ true
+    unfolding wiped
+    wiped-own i h = rw (in-own-block l b i h) (erased-clean l)
+
+    pub wiped-clean : cleanBlock l (wiped l b x) b ≡ true
+    unfolding cleanBlock
+    wiped-clean = all-true K (cleanIn l (wiped l b x) b) wiped-own
+
+    pub wiped-other : (d i : ℕ) → b ≢ d → i < K → wiped l b x (pageIn l d i) ≡ x (pageIn l d i)
+    unfolding wiped
+    wiped-other d i other h = rw (in-other-block l b d i other h)
 
   -- tags stay where named pages do
   module _ (r : ℕ → Record) (x x′ : ℕ → Page) (c : ℕ) (co : Collection) (f : ChipSound l r x c co)
@@ -147,6 +152,7 @@ module _ (l : Layout) where
           rw (at-other (pageIn l b i) page x (pageIn l b′ k) (λ e. d (same-place l b′ k b i h place e .0)))
           (all-at K (cleanIn l x b′) t k h))
 
+      -- the chip after it
       pub program-keeps : co .phase ≢ 2
           → (collecting co c ≡ false → (b′ : ℕ) × (b′ < B) × (b′ ≢ b) × (cleanBlock l x b′ ≡ true))
           → ChipSound l r (at (pageIn l b i) page x) c co
@@ -168,30 +174,19 @@ module _ (l : Layout) where
           (λ e. let (i, h, q) = place-in l b p e in both (named l r c p) t (rw q (unnamed i h)))
           (λ e. rw e)
 
-      clean-own : (i : ℕ) → i < K → cleanIn l (wiped l b x) b i ≡ true
-      unfolding wiped
-      clean-own i h = rw (in-own-block l b i h) erased-clean
-
-      other-block : (b′ i : ℕ) → b′ ≢ b → i < K → wiped l b x (pageIn l b′ i) ≡ x (pageIn l b′ i)
-      unfolding wiped
-      other-block b′ i d h = rw (in-other-block l b b′ i (λ e. d (sym e)) h)
-
       erase-order : (b′ k : ℕ) → b′ < B → k + 1 < K → cleanIn l (wiped l b x) b′ k ≡ true → cleanIn l (wiped l b x) b′ (k + 1) ≡ true
       erase-order b′ k fits h t = elim (ℕ-discrete b′ b) [
-        | yes e ↦ rw e (clean-own (k + 1) h)
-        | no d ↦ rw (other-block b′ (k + 1) d h) (f .order b′ k fits h (rw (other-block b′ k d (omega arith)) at t))
+        | yes e ↦ rw e (wiped-own b x (k + 1) h)
+        | no d ↦ rw (wiped-other b x b′ (k + 1) (λ e. d (sym e)) h) (f .order b′ k fits h (rw (wiped-other b x b′ k (λ e. d (sym e)) (omega arith)) at t))
       ]
 
-      clean-now : cleanBlock l (wiped l b x) b ≡ true
-      unfolding cleanBlock
-      clean-now = all-true K (cleanIn l (wiped l b x) b) clean-own
-
+      -- the chip after it
       pub erase-keeps : (co .phase ≡ 2 → co .chip ≡ c → b ≡ co .victim) → ChipSound l r (wiped l b x) c co
       erase-keeps is-victim = record {
         main = main-stays r x (wiped l b x) c co f erase-same;
         side = side-stays r x (wiped l b x) c co f erase-same;
         order = erase-order;
-        spare = λ t. (b, block, clean-now);
+        spare = λ t. (b, block, wiped-clean b x);
         phase-1 = f .phase-1;
         phase-2 = λ e q i h t. both (named l r c (pageIn l (co .victim) i)) t (rw (← is-victim e q) (unnamed i h));
       }
@@ -201,17 +196,12 @@ module _ (l : Layout) where
         (main : mainNumber l c j r′ ≢ none l → Tagged l x c j (mainNumber l c j r′))
         (side : sideNumber l c j r′ ≢ none l → Tagged l x c j (sideNumber l c j r′)) where
       record-main : (i : ℕ) → i < S → mainNumber l c i (at j r′ r i) ≢ none l → Tagged l x c i (mainNumber l c i (at j r′ r i))
-      record-main i h = elim (ℕ-discrete i j) [
-        | yes e ↦ rw (e, at-same j r′ r) main
-        | no d ↦ rw (at-other j r′ r i d) (f .main i h)
-      ]
+      record-main i h = by-at j r′ r i (λ e n. rw (n, e) main) (λ d n. rw n (f .main i h))
 
       record-side : (i : ℕ) → i < S → sideNumber l c i (at j r′ r i) ≢ none l → Tagged l x c i (sideNumber l c i (at j r′ r i))
-      record-side i h = elim (ℕ-discrete i j) [
-        | yes e ↦ rw (e, at-same j r′ r) side
-        | no d ↦ rw (at-other j r′ r i d) (f .side i h)
-      ]
+      record-side i h = by-at j r′ r i (λ e n. rw (n, e) side) (λ d n. rw n (f .side i h))
 
+      -- the chip after it
       pub record-keeps : co .phase ≡ 0 → ChipSound l (at j r′ r) x c co
       record-keeps rest = record {
         main = record-main;

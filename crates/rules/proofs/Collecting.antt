@@ -1,36 +1,34 @@
 -- A collection as a whole, and the place that it makes: where a chip has no place, there is one after it.
 use Prim.Native.Nat.{ℕ, _+_, _<_}
-use native.Mathlib.Omega.{arith}
-use mathlib.Core.Path.{_≡_, refl, sym, ap, _∙_}
+use mathlib.Core.Path.{_≡_, ap}
 use mathlib.Core.Logic.{_≢_}
-use mathlib.Core.Bool.{Bool, true, false, not}
-use mathlib.Core.List.{List, [], _∷_}
-use Rattle.units.specs.declared.Found.{Found}
-use Rattle.units.specs.declared.Found.the-variants.{At, Nothing}
+use mathlib.Core.Bool.{false}
+use mathlib.Core.List.{List, []}
+use borrow.Author.Tests.{not-true}
+use Rattle.units.specs.declared.Found.the-variants.{At}
 use Rattle.units.specs.Look.{whenFound, someBelow}
-use Rattle.units.proofs.Looks.{by-found, both, all-at, some-at, first-at, first-found, least-at}
-use Rattle.units.proofs.Tests.{and-both, not-true}
-use Rattle.layout.specs.Layout.{Layout, pageIn, inBlock}
-use Rattle.layout.specs.Page.{Page, clean, pageAt}
+use Rattle.units.proofs.Looks.{by-found, all-at, some-at, first-at, first-found, least-at}
+use Rattle.units.proofs.Tests.{and-both}
+use Rattle.layout.specs.Layout.{Layout, pageIn}
+use Rattle.layout.specs.Page.{Page, pageAt}
 use Rattle.layout.specs.Record.{Record, recordAt}
-use Rattle.layout.specs.Collection.{Collection, collectionAt, idle}
+use Rattle.layout.specs.Collection.{Collection, collectionAt}
 use Rattle.layout.specs.Images.{Images}
-use Rattle.stores.specs.Steps.{Step, andThen, applyAll}
+use Rattle.stores.specs.Steps.{Step, andThen}
 use Rattle.stores.proofs.View.{wiped}
-use Rattle.stores.proofs.Prefixes.{Leads, leads-nil, leads-then, leads-weaken, Closes, closes-then}
+use Rattle.stores.proofs.Prefixes.{Leads, leads-then, leads-weaken, Closes, closes-then}
 use Rattle.rules.specs.Names.{named}
 use Rattle.rules.specs.Blocks.{cleanIn, usedIn, unnamedIn, cleanBlock, fullBlock, lowestCleanBlock}
 use Rattle.rules.specs.Sound.{collecting}
-use Rattle.rules.specs.Collect.{phase, collectable, namedCount, victimOf, copySteps, collectSteps}
+use Rattle.rules.specs.Collect.{collectable, namedCount, victimOf, copySteps, collectSteps}
 use Rattle.rules.specs.Open.{finishSteps}
 use Rattle.rules.specs.Place.{placeOf, atPlace, placed}
 use Rattle.rules.proofs.Statements.{Usable, ChipSound, Sound, sound-chip}
-use Rattle.rules.proofs.Names.{in-other-block}
 use Rattle.rules.proofs.Kept.{Kept, kept-refl, kept-trans}
-use Rattle.rules.proofs.Ending.{wiped-clean, wiped-elsewhere}
 use Rattle.rules.proofs.Finish.{Finished, finish-leads}
-use Rattle.rules.proofs.Copying.{Chosen, AllCopied, copies-lead, differ}
+use Rattle.rules.proofs.Copying.{Chosen, AllCopied, copies-lead, blocks-differ}
 use Rattle.rules.proofs.Room.{PlaceAt, place-at, place-found, victim-found}
+use Rattle.rules.proofs.Chips.{wiped-clean, wiped-other}
 
 module _ (l : Layout) where
   -- the collection record is idle, and chip c has a place
@@ -89,12 +87,13 @@ module _ (l : Layout) (u : Usable l) where
           let d = destination .0 in
           let busy : collectionAt l (t .records) .phase ≡ 2 = ap (λ (o : Collection). o .phase) (a .collection) in
           let view : pageAt l (w .chips) c ≡ wiped l v (pageAt l (t .chips) c) = rw (a .collection) at (e .wiped-victim busy .pages) in
-          let apart : v ≢ d = differ l u s f c v d chosen in
+          let apart : v ≢ d = blocks-differ l u s f c v d chosen in
           let p =
           place-found l (u .within) (pageAt l (w .chips) c) v d (a .last) (chosen .victim) (chosen .destination) apart
-          (rw view (wiped-clean l v (pageAt l (t .chips) c))) (a .fits) (rw view (wiped-elsewhere l v d (a .last) (pageAt l (t .chips) c) apart (a .fits) (a .is-clean))) in
+          (rw view (wiped-clean l v (pageAt l (t .chips) c))) (a .fits) (rw (view, wiped-other l v (pageAt l (t .chips) c) d (a .last) apart (a .fits)) (a .is-clean)) in
           record { rest = ap (λ (o : Collection). o .phase) (e .is-idle); place = p .0; found = p .1 }
 
+      -- a collection keeps what the images hold, and ends with a place on the chip
       pub collect-leads : Leads l (Kept l) (HasPlace l c) (collectSteps l c s) s
       unfolding collectSteps whenFound
       collect-leads =
@@ -125,6 +124,7 @@ module _ (l : Layout) (u : Usable l) where
           (leads-weaken l (Kept l) R (HasPlace l c) (λ t. Kept l s t × HasPlace l c t) (collectSteps l c s) s (less s) (λ t k h. (k, h)) (collect-leads v victim))
           (λ t reached h. at-place t (h .0) (h .1) [])
 
+      -- so a call that needs a place gets one
       pub placed-closes : Closes l R F (placed l c fill s) s
       unfolding placed atPlace whenFound
       placed-closes = by-found (placeOf l x)

@@ -8,24 +8,26 @@ use mathlib.Core.Bool.{true}
 use mathlib.Core.List.{List}
 use Rattle.units.specs.Look.{countBelow}
 use Rattle.units.specs.Update.{at}
-use Rattle.units.proofs.Looks.{count-flip}
 use Rattle.units.proofs.Updates.{at-same, at-other}
+use Rattle.units.proofs.Counts.{count-flip}
 use Rattle.layout.specs.Layout.{Layout}
 use Rattle.layout.specs.Rotation.{parityChip, memberOf, stripeOf}
 use Rattle.layout.specs.Page.{pageAt}
 use Rattle.layout.specs.Record.{Record, noSlot, hasSlot, slotted, recordAt}
 use Rattle.layout.specs.Collection.{collectionAt}
 use Rattle.layout.specs.Images.{Images, slotAt}
+use Rattle.layout.proofs.Records.{SixMembers, six-members}
+use Rattle.layout.proofs.Pages.{page-number}
 use Rattle.stores.specs.Store.{stripe, apply}
 use Rattle.rules.specs.Commit.{newParity, committed}
 use Rattle.rules.proofs.Statements.{Usable, RecordSound, Sound}
-use Rattle.rules.proofs.Names.{page-number}
 use Rattle.rules.proofs.Contents.{StripeData, Data, pages-whole}
-use Rattle.rules.proofs.Parity.{parityAfter, commit-data}
-use Rattle.rules.proofs.Kept.{CopiesOf, Kept, stripe-view, stripe-collection, sound-stripe}
+use Rattle.rules.proofs.Parity.{commit-data}
+use Rattle.rules.proofs.Kept.{CopiesOf, Kept}
 use Rattle.rules.proofs.Carries.{Carries, kept-carries, new-parity-kept}
-use Rattle.rules.proofs.Entries.{SixMembers, six-members, committed-six, committed-sound, committed-main, committed-side}
+use Rattle.rules.proofs.Entries.{committed-six, committed-sound, committed-main, committed-side}
 use Rattle.rules.proofs.Last.{NewPage, main-tagged, side-tagged, stored-here, stored-other, stored-copies, stored-data, stored-read}
+use Rattle.rules.proofs.Storing.{stripe-view, stripe-collection, sound-stripe}
 
 module _ (l : Layout) (u : Usable l) where
   open Layout l using (S)
@@ -33,7 +35,7 @@ module _ (l : Layout) (u : Usable l) where
   -- The record of a commit, stored on images t in which the parity page stands at p, worked out from s.
   module _ (s t : Images) (k : Kept l s t) (same : t .records ≡ s .records) (rest : collectionAt l (t .records) .phase ≡ 0)
       (j p : ℕ) (fits : j < S) (slot : hasSlot (recordAt l (t .records) j) ≡ true)
-      (new : NewPage l u t (parityChip l j) j p (newParity l s j (recordAt l (s .records) j))) where
+      (new : NewPage l t (parityChip l j) j p (newParity l (pageAt l (s .chips)) (slotAt l (s .slots)) j (recordAt l (s .records) j))) where
     abbrev r : Record
     r = recordAt l (t .records) j
 
@@ -83,8 +85,8 @@ module _ (l : Layout) (u : Usable l) where
     same-record : recordAt l (s .records) j ≡ r
     same-record = ap (λ (x : List ℕ). recordAt l x j) (sym same)
 
-    new-parity : CopiesOf l s → newParity l s j (recordAt l (s .records) j) ≡ parityAfter l (pageAt l (t .chips)) (slotAt l (t .slots)) j r
-    unfolding newParity
+    new-parity : CopiesOf l s
+        → newParity l (pageAt l (s .chips)) (slotAt l (s .slots)) j (recordAt l (s .records) j) ≡ newParity l (pageAt l (t .chips)) (slotAt l (t .slots)) j r
     new-parity c =
         rw same-record
         (sym (new-parity-kept l (pageAt l (s .chips)) (pageAt l (t .chips)) j r
@@ -104,6 +106,7 @@ module _ (l : Layout) (u : Usable l) where
       | no d ↦ ap (λ (x : Record). x .current m) (commit-others i d)
     ]
 
+    -- nothing is lost
     pub commit-carries : Carries l s committedImages
     commit-carries =
         let kept = kept-carries l u s t k in

@@ -21,8 +21,9 @@ use Rattle.layout.specs.Page.{Page, pageOf, pageAt}
 use Rattle.layout.specs.Record.{Record, bit, noSlot, hasSlot, recordAt}
 use Rattle.layout.specs.Images.{Images, chipsLength, slotsLength, slotAt}
 use Rattle.layout.proofs.Limits.{Within}
-use Rattle.layout.proofs.Bits.{bit-test, test-zero, nonzero-has-bit}
+use Rattle.layout.proofs.Bits.{bit-test, nonzero-has-bit}
 use Rattle.layout.proofs.Rotations.{member-chip-fits}
+use Rattle.layout.proofs.Records.{bits-of-none}
 use Rattle.rules.specs.Gather.{bytesAt, memberBytes, gathered}
 use Rattle.rules.proofs.Statements.{Numbered, RecordSound}
 
@@ -60,7 +61,7 @@ module _ (l : Layout) where
   unfolding bytesAt
   bytes-page y c p d = rw (ne-eqb p (none l) d)
 
-  pub bytes-at-none : (y : ℕ → ℕ → Page) (c p : ℕ) → p ≡ none l → bytesAt l y c p ≡ []
+  bytes-at-none : (y : ℕ → ℕ → Page) (c p : ℕ) → p ≡ none l → bytesAt l y c p ≡ []
   bytes-at-none y c p e = rw e (bytes-none y c)
 
   -- a number that is none or a page: one of two, or none
@@ -83,6 +84,7 @@ module _ (l : Layout) where
 
   -- ---- the pages of a stripe
 
+  -- the same bytes
   pub gathered-cong : (y y′ : ℕ → ℕ → Page) (j : ℕ) (f f′ : ℕ → ℕ)
       → ((m : ℕ) → m < N → bytesAt l y′ (memberChip l j m) (f′ m) ≡ bytesAt l y (memberChip l j m) (f m))
       → gathered l y′ j f′ ≡ gathered l y j f
@@ -131,6 +133,7 @@ module _ (l : Layout) where
 
   -- ---- images of their lengths
 
+  -- every page and every slot is W bytes long
   pub pages-whole : (s : Images) → length (s .chips) ≡ chipsLength l → Whole (pageAt l (s .chips))
   unfolding pageAt pageOf chipsLength
   pages-whole s long c p chip inside =
@@ -145,9 +148,7 @@ module _ (l : Layout) where
 
   -- ---- a record has a slot exactly where some bit is set
 
-  pub bits-of-none : (r : Record) → r .bitmap ≡ 0 → (m : ℕ) → bit r m ≡ false
-  bits-of-none r e m = rw (bit-test r m, e) (test-zero m)
-
+  -- from the slot to the bits
   pub slot-bits : (r : Record) → RecordSound l r → hasSlot r ≡ true → r .bitmap ≢ 0
   slot-bits r f t e = both (hasSlot r) t (rw (f .no-slot e))
 
@@ -157,7 +158,7 @@ module _ (l : Layout) where
       (m, h, bit-test r m ∙ e)
 
   module _ (w : Within l) (r : Record) (f : RecordSound l r) where
-    pub bits-slot : r .bitmap ≢ 0 → hasSlot r ≡ true
+    bits-slot : r .bitmap ≢ 0 → hasSlot r ≡ true
     bits-slot d = rw (ne-eqb (r .slot) noSlot (omega (arith, f .slot d, w .partials-high)))
 
     pub bit-slot : (m : ℕ) → bit r m ≡ true → hasSlot r ≡ true

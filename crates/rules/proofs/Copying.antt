@@ -1,45 +1,39 @@
 -- The first half of a collection: phase 1, the copies, phase 2. Every cut of it keeps what the images hold, and at its end the copies are twins.
-use Prim.Native.Nat.{ℕ, zero, suc, _+_, _-_, _*_, _≤_, _<_}
+use Prim.Native.Nat.{ℕ, suc, _+_, _-_, _≤_, _<_}
 use native.Mathlib.Nat.{le-refl, le-step, lt-suc-self, le-of-lt}
 use native.Mathlib.Omega.{arith}
 use mathlib.Core.Path.{_≡_, refl, sym, ap, _∙_}
 use mathlib.Core.Logic.{_≢_}
-use mathlib.Core.Bool.{Bool, true, false, not}
-use mathlib.Core.List.{List, [], _∷_, _++_}
-use lib.ListN.{length}
-use lib.Dec.{eqb}
-use borrow.Author.Tests.{eq-eqb, ne-eqb, eqb-true, eqb-false}
+use mathlib.Core.Bool.{Bool, true, false}
+use mathlib.Core.List.{[], _∷_, _++_}
+use borrow.Author.Tests.{eq-eqb, ne-eqb, eqb-true}
 use Rattle.units.specs.Look.{countBelow}
 use Rattle.units.specs.Update.{at}
-use Rattle.units.proofs.Looks.{by-test, by-order, by-three, at-last, both, all-at, some-at, count-pass, count-fail, count-mono, count-less, count-all, count-start}
-use Rattle.units.proofs.Tests.{and-both}
+use Rattle.units.proofs.Looks.{by-test, by-order, at-last, both}
 use Rattle.units.proofs.Updates.{at-same, at-other}
-use Rattle.layout.specs.Layout.{Layout, none, pages, pageIn, inBlock}
+use Rattle.units.proofs.Counts.{count-pass, count-fail, count-mono, count-less, count-all, count-start, count-same}
+use Rattle.layout.specs.Layout.{Layout, none, pageIn, inBlock}
 use Rattle.layout.specs.Page.{Page, cleanKind, clean, pageAt}
 use Rattle.layout.specs.Record.{Record, recordAt}
 use Rattle.layout.specs.Collection.{Collection, collectionAt}
 use Rattle.layout.specs.Images.{Images}
 use Rattle.layout.proofs.Codec.{PageFits}
+use Rattle.layout.proofs.Pages.{page-in-fits, same-place, in-own-block, in-other-block, page-number}
 use Rattle.stores.specs.Store.{program, collection, apply}
 use Rattle.stores.specs.Steps.{plain, stepsBelow, applyAll}
 use Rattle.stores.proofs.Prefixes.{Leads, leads-nil, leads-one, leads-cons, leads-append, leads-below}
 use Rattle.rules.specs.Names.{named}
-use Rattle.rules.specs.Blocks.{cleanIn, usedIn, namedIn, unnamedIn, cleanBlock, fullBlock}
+use Rattle.rules.specs.Blocks.{cleanIn, namedIn, unnamedIn, cleanBlock}
 use Rattle.rules.specs.Sound.{collecting, twinIn}
-use Rattle.rules.specs.Collect.{phase, copyOf, collectable, copyFrom, copySteps}
+use Rattle.rules.specs.Collect.{phase, copyOf, copyFrom, copySteps}
 use Rattle.rules.proofs.Statements.{Usable, CollectionSound, ChipSound, OneTwin, Sound, sound-chip}
-use Rattle.rules.proofs.Names.{page-in-fits, same-place, in-own-block, in-other-block, page-number, named-by, name-tagged, named-used, clean-block-unnamed}
+use Rattle.rules.proofs.Names.{named-by, name-tagged, named-used, clean-block-unnamed}
 use Rattle.rules.proofs.Contents.{pages-whole}
 use Rattle.rules.proofs.Fresh.{none-fits}
-use Rattle.rules.proofs.Kept.{Copies, Kept, kept-refl, kept-trans, kept-program, kept-collection, program-view, collection-view, collection-records, Fillable}
-use Rattle.rules.proofs.Ending.{IsTwin, twin-is, is-twin, not-collecting}
-
--- general: two numbers that pass and have the same count below them are one
-pub count-same : (f : ℕ → Bool) (i j : ℕ) → f i ≡ true → f j ≡ true → countBelow i f ≡ countBelow j f → i ≡ j
-count-same f i j p q e = by-three i j
-    (λ h. absurd (omega (arith, count-pass i f p, count-mono (suc i) j f h)))
-    (λ h. h)
-    (λ h. absurd (omega (arith, count-pass j f q, count-mono (suc j) i f h)))
+use Rattle.rules.proofs.Kept.{Copies, Kept, kept-refl, kept-trans, Fillable, no-copies-yet}
+use Rattle.rules.proofs.Twins.{twin-is, is-twin}
+use Rattle.rules.proofs.Places.{clean-at}
+use Rattle.rules.proofs.Storing.{kept-program, kept-collection, program-view, collection-view, collection-records}
 
 module _ (l : Layout) where
   open Layout l using (N, K, B)
@@ -74,7 +68,7 @@ module _ (l : Layout) where
     pub is-clean : cleanIn l (pageAt l (t .chips) c) d last ≡ true
 
 module _ (l : Layout) (u : Usable l) where
-  open Layout l using (N, W, K, B, S)
+  open Layout l using (K)
 
   module _ (s : Images) (f : Sound l s) (c v d : ℕ) (o : Chosen l s c v d) where
     abbrev r : ℕ → Record
@@ -89,9 +83,10 @@ module _ (l : Layout) (u : Usable l) where
     here : ChipSound l r x c (collectionAt l (s .records))
     here = sound-chip l u s f c (o .chip)
 
-    pub differ : v ≢ d
-    unfolding cleanBlock
-    differ e = both (cleanIn l x v 0) (rw e (all-at K (cleanIn l x d) (o .is-clean) 0 (omega (arith, u .within .places-low)))) (o .full 0 (omega (arith, u .within .places-low)))
+    pub blocks-differ : v ≢ d
+    blocks-differ e =
+        let some : 0 < K = omega (arith, u .within .places-low) in
+        both (cleanIn l x v 0) (rw e (clean-at l x d 0 (o .is-clean) some)) (o .full 0 some)
 
     fewer : countBelow K isNamed < K
     fewer = count-less K isNamed (o .hole) (o .hole-fits) (o .hole-unnamed)
@@ -104,7 +99,7 @@ module _ (l : Layout) (u : Usable l) where
       chip = λ e. omega (arith, o .chip);
       victim = λ e. o .victim;
       destination = λ e. o .destination;
-      apart = λ e. differ;
+      apart = λ e. blocks-differ;
     }
 
     destination-unnamed : (i : ℕ) → i < K → named l r c (pageIn l d i) ≡ false
@@ -141,16 +136,16 @@ module _ (l : Layout) (u : Usable l) where
         (λ c′ fits e. sound-chip l u s f c′ fits .spare (rw (o .rest)))
         (λ e. destination-unnamed)
         (λ e. absurd (omega arith))
-        (record { bytes = λ e. absurd (omega arith); ranks = λ e. absurd (omega arith) })
+        (no-copies-yet l r x (phase 1 c v d) (omega arith))
 
     begun : Copied l s c v d 0 s₁
-    unfolding apply cleanBlock
+    unfolding apply
     begun = record {
       collection = collection-view l u s f (phase 1 c v d) (phase-sound 1 (omega arith) (omega arith));
       records = collection-records l u s f (phase 1 c v d) (phase-sound 1 (omega arith) (omega arith));
       outside = λ p e. refl;
       filled = λ k h. absurd (omega (arith, count-start isNamed));
-      ahead = λ k h fits. all-at K (cleanIn l x d) (o .is-clean) k fits;
+      ahead = λ k h fits. clean-at l x d k (o .is-clean) fits;
     }
 
     -- the copy of place i, made on images t
@@ -239,7 +234,7 @@ module _ (l : Layout) (u : Usable l) where
       z = pageAt l (t .chips) c
 
       original : (i : ℕ) → i < K → z (pageIn l v i) ≡ x (pageIn l v i)
-      original i place = m .outside (pageIn l v i) (in-other-block l d v i (λ e. differ (sym e)) place)
+      original i place = m .outside (pageIn l v i) (in-other-block l d v i (λ e. blocks-differ (sym e)) place)
 
       -- the copy of place i stands at the place of its rank
       module _ (i : ℕ) (place : i < K) (n : isNamed i ≡ true) where
@@ -313,6 +308,7 @@ module _ (l : Layout) (u : Usable l) where
         is-clean = m .ahead (K - 1) (omega (arith, fewer)) (omega (arith, u .within .places-low));
       }
 
+    -- the stores of the first half, in order
     pub copies-lead : Leads l (Kept l) (AllCopied l c v d) (copySteps l c x r v d) s
     unfolding copySteps
     copies-lead =

@@ -1,8 +1,7 @@
 -- Demand 3, by one induction over events: calls, and the taking of a chip. The two lists of document 01 are its corollary.
-use Prim.Native.Nat.{ℕ, _+_, _≤_, _<_}
+use Prim.Native.Nat.{ℕ, _≤_}
 use native.Mathlib.Omega.{arith}
-use mathlib.Core.Path.{_≡_, refl, sym, ap, _∙_}
-use mathlib.Core.Bool.{true}
+use mathlib.Core.Path.{_≡_, refl, _∙_}
 use mathlib.Core.List.{List, [], _∷_, _++_}
 use lib.ListN.{length}
 use Rattle.layout.specs.Layout.{Layout, noChip, chipBytes}
@@ -10,12 +9,8 @@ use Rattle.layout.specs.Images.{Images}
 use Rattle.layout.proofs.Limits.{within}
 use Rattle.rules.specs.Book.{Call, lostChip}
 use Rattle.rules.specs.Demand.{World, called, calledAll, chipTaken, allName, ReadsTheBook, Finished, start, Demand3}
-use Rattle.stores.specs.Steps.{applyAll}
-use Rattle.rules.specs.Format.{formatSteps}
-use Rattle.rules.proofs.Fresh.{formatted}
-use Rattle.rules.proofs.FirstWrite.{format-done, lengths-are}
+use Rattle.rules.proofs.Fresh.{format-fresh}
 use Rattle.rules.proofs.Statements.{Usable}
-use Rattle.rules.proofs.Checks.{sound-but}
 use Rattle.rules.proofs.Invariant.{Inv, fresh-inv, reads-book}
 use Rattle.rules.proofs.Alive.{call-inv}
 use Rattle.rules.proofs.Taken.{Taken, take-chip, taken-trans, taken-reads, call-stays}
@@ -136,13 +131,10 @@ module _ (l : Layout) where
     -- "the images as a finished format left them"
     module _ (f : Finished l) where
       usable : Usable l
-      usable = record { within = within l (format-done l (f .images) (f .allowance) (f .isDone) .0); some = some; narrow = narrow }
+      usable = record { within = within l (format-fresh l some narrow (f .images) (f .allowance) (f .isDone) .0); some = some; narrow = narrow }
 
       start-holds : Holds l alive (start l f)
-      start-holds =
-          let (fit, long, is) = format-done l (f .images) (f .allowance) (f .isDone) in
-          let n = lengths-are l (f .images) long in
-          rw is (fresh-inv l usable (applyAll l (formatSteps l) (f .images)) (formatted l narrow some (f .images) (n .0) (n .1) (n .2)))
+      start-holds = fresh-inv l usable (start l f .images) (format-fresh l some narrow (f .images) (f .allowance) (f .isDone) .1)
 
     one-chip : (f : Finished l) (first : List Call) (c : ℕ) → c ≤ l .N → (bytes : List ℕ) → length bytes ≡ chipBytes l
         → (second : List Call) → allName c second → Owed l (dead c) (calledAll l second (chipTaken l c bytes (calledAll l first (start l f))))

@@ -8,68 +8,47 @@ use mathlib.Core.Bool.{true}
 use mathlib.Core.List.{List}
 use lib.ListN.{length}
 use lib.Pow.{pow-pos}
-use borrow.Author.Tests.{le-ltb}
 use Rattle.units.specs.Xor.{_⊕_}
 use Rattle.units.proofs.Looks.{by-test, both}
 use Rattle.units.proofs.Xors.{length-xors, length-xors-left}
 use Rattle.layout.specs.Layout.{Layout, none, pages}
 use Rattle.layout.specs.Rotation.{parityChip, memberChip}
 use Rattle.layout.specs.Page.{Page, pageAt}
-use Rattle.layout.specs.Record.{Record, bit, hasSlot, sixFrom, recordOf, recordAt}
+use Rattle.layout.specs.Record.{Record, bit, hasSlot, recordAt}
 use Rattle.layout.specs.Images.{Images, slotAt}
 use Rattle.layout.proofs.Limits.{Within}
 use Rattle.layout.proofs.Bits.{set-bound, set-nonzero}
 use Rattle.layout.proofs.Rotations.{parity-chip-fits, member-chip-fits}
+use Rattle.layout.proofs.Records.{bits-of-none, SixMembers}
+use Rattle.layout.proofs.Pages.{page-number}
 use Rattle.rules.specs.Names.{mainNumber, sideNumber}
 use Rattle.rules.specs.Gather.{bytesAt, gathered}
 use Rattle.rules.specs.Commit.{setBits, mostInPartial, currentOutside, oldInside, newParity, committed}
 use Rattle.rules.specs.Write.{newPartial, written}
-use Rattle.rules.proofs.Statements.{Numbered, MemberSound, RecordSound, Tagged, Sound}
-use Rattle.rules.proofs.Names.{page-number, main-member, side-member, main-parity, side-parity, by-chip}
-use Rattle.rules.proofs.Contents.{underParity, numbered-none, numbered-cond, length-bytes-most, length-gathered, pages-whole, slot-whole, bits-of-none, slot-bits}
+use Rattle.rules.proofs.Statements.{Numbered, MemberSound, RecordSound, Tagged, Sound, sound-member}
+use Rattle.rules.proofs.Names.{main-member, side-member, main-parity, side-parity, by-chip}
+use Rattle.rules.proofs.Contents.{underParity, numbered-none, numbered-cond, length-bytes-most, length-gathered, pages-whole, slot-whole, slot-bits}
 use Rattle.rules.proofs.Parity.{written-bit, written-bit-other, written-current, written-current-other, written-old, written-old-other}
+use Rattle.rules.proofs.Stays.{stays-same, member-same}
 
 module _ (l : Layout) where
   open Layout l using (N, W, S, M)
 
-  -- a record has no numbers beyond the six
-  abbrev pub SixMembers : Record → Type 0
-  SixMembers r = (m : ℕ) → 6 ≤ m → (r .current m ≡ none l) × (r .old m ≡ none l)
-
-  pub six-members : (records : List ℕ) (j : ℕ) → SixMembers (recordAt l records j)
-  unfolding recordAt recordOf sixFrom
-  six-members records j m h = rw (le-ltb m 6 h) (refl, refl)
-
-  pub committed-six : (p : ℕ) (r : Record) → SixMembers r → SixMembers (committed l p r)
+  -- what is stored has no numbers beyond the six members either
+  pub committed-six : (p : ℕ) (r : Record) → SixMembers l r → SixMembers l (committed l p r)
   unfolding committed
   committed-six p r six m h = (six m h .0, refl)
 
-  pub written-six : (m p i : ℕ) (r : Record) → m < 6 → SixMembers r → SixMembers (written l m p i r)
+  pub written-six : (m p i : ℕ) (r : Record) → m < 6 → SixMembers l r → SixMembers l (written l m p i r)
   written-six m p i r h six k b =
       let d : k ≢ m = omega arith in
       (written-current-other l m p i r k d ∙ six k b .0, written-old-other l m p i r k d ∙ six k b .1)
-
-  -- what a record says of a member is about its own numbers, its bit and the parity
-  member-same : (r r′ : Record) (k : ℕ) → r′ .current k ≡ r .current k → r′ .old k ≡ r .old k → bit r′ k ≡ bit r k → r′ .parity ≡ r .parity
-      → MemberSound l r k → MemberSound l r′ k
-  member-same r r′ k current old bits parity f = record {
-    current = rw current (f .current);
-    old = rw old (f .old);
-    beyond = rw (current, old) (f .beyond);
-    old-under-bit = rw (old, bits) (f .old-under-bit);
-    current-under-bit = rw (current, old, bits) (f .current-under-bit);
-    parity-under-old = rw (old, parity) (f .parity-under-old);
-    parity-under-current = rw (current, bits, parity) (f .parity-under-current);
-  }
 
   written-parity : (m p i : ℕ) (r : Record) → written l m p i r .parity ≡ r .parity
   unfolding written
   written-parity m p i r = refl
 
   module _ (w : Within l) (r : Record) (f : RecordSound l r) where
-    sound-member : (m : ℕ) → m < N → MemberSound l r m
-    sound-member m h = f .member m (omega (arith, w .members-high))
-
     -- ---- commit
 
     module _ (p : ℕ) (page : p < pages l) where
@@ -80,7 +59,7 @@ module _ (l : Layout) where
         old = numbered-none l;
         beyond = λ b. (f .member m h .beyond b .0, refl);
         old-under-bit = λ d. absurd (d refl);
-        current-under-bit = λ t. both (bit (committed l p r) m) t (bits-of-none l (committed l p r) refl m);
+        current-under-bit = λ t. both (bit (committed l p r) m) t (bits-of-none (committed l p r) refl m);
         parity-under-old = λ d. absurd (d refl);
         parity-under-current = λ d t. page-number l w p page;
       }
@@ -100,13 +79,13 @@ module _ (l : Layout) where
 
     under-parity-numbered : (m : ℕ) → m < N → Numbered l (underParity l r m)
     unfolding underParity
-    under-parity-numbered m h = numbered-cond l (bit r m) (r .old m) (r .current m) (sound-member m h .old) (sound-member m h .current)
+    under-parity-numbered m h = numbered-cond l (bit r m) (r .old m) (r .current m) (sound-member l w r f m h .old) (sound-member l w r f m h .current)
 
     -- what the parity holds of a member needs a parity page
     under-parity-needs : (m : ℕ) → m < N → underParity l r m ≢ none l → r .parity ≢ none l
     unfolding underParity
     under-parity-needs m h =
-        by-test (bit r m) (λ t. rw t (sound-member m h .parity-under-old)) (λ t. rw t (λ d. sound-member m h .parity-under-current d t))
+        by-test (bit r m) (λ t. rw t (sound-member l w r f m h .parity-under-old)) (λ t. rw t (λ d. sound-member l w r f m h .parity-under-current d t))
 
     module _ (m p i : ℕ) (h : m < N) (page : p < pages l) (fresh : p ≢ underParity l r m) where
       written-here : MemberSound l (written l m p i r) m
@@ -124,8 +103,8 @@ module _ (l : Layout) where
       written-member k b = elim (ℕ-discrete k m) [
         | yes e ↦ rw e written-here
         | no d ↦
-            member-same r (written l m p i r) k (written-current-other l m p i r k d) (written-old-other l m p i r k d)
-            (written-bit-other l m p i r k d) (written-parity m p i r) (f .member k b)
+            member-same l r (written l m p i r) k (written-bit-other l m p i r k d) (stays-same l (f .parity) (written-parity m p i r))
+            (written-current-other l m p i r k d) (written-old-other l m p i r k d) (f .member k b)
       ]
 
       pub written-sound : i < M + 1 → RecordSound l (written l m p i r)
@@ -215,14 +194,15 @@ module _ (l : Layout) where
     length-outside : length (gathered l y j (currentOutside l r)) ≤ W
     unfolding currentOutside
     length-outside = length-gathered l y j (pages-whole l s (f .chips)) (currentOutside l r)
-        (λ m h. numbered-cond l (bit r m) (none l) (r .current m) (numbered-none l) (sound-member w r sound m h .current))
+        (λ m h. numbered-cond l (bit r m) (none l) (r .current m) (numbered-none l) (sound-member l w r sound m h .current))
 
     length-old : length (gathered l y j (oldInside l r)) ≤ W
     unfolding oldInside
     length-old = length-gathered l y j (pages-whole l s (f .chips)) (oldInside l r)
-        (λ m h. numbered-cond l (bit r m) (r .old m) (none l) (sound-member w r sound m h .old) (numbered-none l))
+        (λ m h. numbered-cond l (bit r m) (r .old m) (none l) (sound-member l w r sound m h .old) (numbered-none l))
 
-    pub new-parity-length : hasSlot r ≡ true → length (newParity l s j r) ≡ W
+    -- both are W bytes long
+    pub new-parity-length : hasSlot r ≡ true → length (newParity l y (slotAt l (s .slots)) j r) ≡ W
     unfolding newParity
     new-parity-length t =
         let x = slotAt l (s .slots) (r .slot) in
@@ -236,14 +216,14 @@ module _ (l : Layout) where
         ∙ length-slot t))
 
   pub new-partial-length : Within l → (s : Images) (j m : ℕ) (xs : List ℕ) → Sound l s → j < S → m < N → length xs ≡ W
-      → length (newPartial l s j m xs (recordAt l (s .records) j)) ≡ W
+      → length (newPartial l (pageAt l (s .chips)) (slotAt l (s .slots)) j m xs (recordAt l (s .records) j)) ≡ W
   unfolding newPartial
   new-partial-length w s j m xs f fits h long =
       let r = recordAt l (s .records) j in
       let x = slotAt l (s .slots) (r .slot) in
       let page = bytesAt l (pageAt l (s .chips)) (memberChip l j m) (r .current m) in
       let short =
-      length-number w s j f fits (memberChip l j m) (r .current m) (member-chip-fits l j m h) (sound-member w r (sound w s j f fits) m h .current) in
+      length-number w s j f fits (memberChip l j m) (r .current m) (member-chip-fits l j m h) (sound-member l w r (sound w s j f fits) m h .current) in
       by-test (hasSlot r)
       (λ t. by-test (bit r m)
       (λ b. rw (t, b) (omega (arith, length-xors (x ⊕ page) xs, length-xors x page, length-slot w s j f fits t, short, long)))

@@ -1,33 +1,34 @@
 -- A page programmed at the place that was found: it is new, and nothing else changes.
 use Prim.Native.Nat.{ℕ, _+_, _<_}
 use native.Mathlib.Omega.{arith}
-use mathlib.Core.Path.{_≡_, refl, ap, _∙_}
+use mathlib.Core.Path.{_≡_, ap, _∙_}
 use mathlib.Core.Logic.{_≢_}
-use mathlib.Core.Bool.{true, false}
-use mathlib.Core.List.{List}
+use mathlib.Core.Bool.{false}
 use Rattle.units.specs.Update.{at}
-use Rattle.units.proofs.Looks.{both}
 use Rattle.units.proofs.Updates.{at-same}
-use Rattle.layout.specs.Layout.{Layout, none, pages, pageIn}
+use Rattle.layout.specs.Layout.{Layout, pages}
 use Rattle.layout.specs.Page.{Page, cleanKind, pageAt}
 use Rattle.layout.specs.Record.{recordAt}
 use Rattle.layout.specs.Collection.{collectionAt}
 use Rattle.layout.specs.Images.{Images}
 use Rattle.layout.proofs.Codec.{PageFits}
+use Rattle.layout.proofs.Pages.{page-in-fits, page-number}
 use Rattle.stores.specs.Store.{program, apply}
 use Rattle.rules.specs.Names.{kindOn, memberTag, named}
-use Rattle.rules.proofs.Statements.{Usable, Tagged, Sound, sound-chip}
-use Rattle.rules.proofs.Names.{page-in-fits, page-number, clean-unnamed}
-use Rattle.rules.proofs.Kept.{Kept, kept-program, program-view}
+use Rattle.rules.proofs.Statements.{Usable, Sound, sound-chip}
+use Rattle.rules.proofs.Names.{clean-unnamed}
+use Rattle.rules.proofs.Kept.{Kept}
 use Rattle.rules.proofs.Room.{PlaceAt}
 use Rattle.rules.proofs.Last.{NewPage}
+use Rattle.rules.proofs.Storing.{kept-program, program-view}
 
 module _ (l : Layout) (u : Usable l) (t : Images) (g : Sound l t) (rest : collectionAt l (t .records) .phase ≡ 0)
     (c : ℕ) (chip : c < l .N + 1) (p : ℕ) (o : PlaceAt l (pageAt l (t .chips) c) p)
-    (j : ℕ) (page : Page) (fits : PageFits l page) (used : page .kind ≢ cleanKind) where
+    (page : Page) (fits : PageFits l page) (used : page .kind ≢ cleanKind) where
   fits-in : p < pages l
   fits-in = rw (o .is) (page-in-fits l (o .block) (o .place) (o .fillable .block) (o .fillable .place))
 
+  -- the store keeps what the images hold
   pub fill-kept : Kept l t (apply l (program c p page) t)
   fill-kept =
       rw (o .is)
@@ -44,10 +45,11 @@ module _ (l : Layout) (u : Usable l) (t : Images) (g : Sound l t) (rest : collec
       clean-unnamed l (recordAt l (t .records)) (pageAt l (t .chips) c) c (collectionAt l (t .records)) (sound-chip l u t g c chip) p
       (page-number l (u .within) p fits-in) (rw (o .is) (o .fillable .is-clean))
 
-  pub fill-new : page .stripe ≡ j → page .kind ≡ kindOn l c j → page .member ≡ memberTag l c j
-      → NewPage l u (apply l (program c p page) t) c j p (page .bytes)
+  -- and the page is new
+  pub fill-new : (j : ℕ) → page .stripe ≡ j → page .kind ≡ kindOn l c j → page .member ≡ memberTag l c j
+      → NewPage l (apply l (program c p page) t) c j p (page .bytes)
   unfolding apply
-  fill-new stripe kind member = record {
+  fill-new j stripe kind member = record {
     fits = fits-in;
     unnamed = not-named;
     tagged = record {

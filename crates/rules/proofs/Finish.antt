@@ -1,39 +1,30 @@
 -- The end of a collection, which open and collect share: from sound images in any phase, every cut of it keeps what the images hold.
-use Prim.Native.Nat.{ℕ, zero, suc, _+_, _≤_, _<_}
+use Prim.Native.Nat.{ℕ, suc, _+_, _<_}
 use native.Mathlib.Nat.{not-suc-le-zero}
 use native.Mathlib.Omega.{arith}
-use native.Mathlib.Decide.{decLt}
 use mathlib.Core.Path.{_≡_, refl, sym, ap, _∙_}
 use mathlib.Core.Logic.{_≢_}
-use mathlib.Core.Bool.{Bool, true, false, not, and-false, or-true}
-use mathlib.Core.List.{List, [], _∷_}
-use lib.ListN.{getD-replicate}
+use mathlib.Core.Bool.{true, false}
+use mathlib.Core.List.{[]}
 use lib.Dec.{eqb}
-use borrow.Author.Tests.{eq-eqb, ne-eqb, eqb-true, eqb-false}
-use Rattle.units.specs.Look.{whenFound}
-use Rattle.units.specs.Update.{at}
-use Rattle.units.proofs.Looks.{by-test, both, all-true, at-last}
-use Rattle.units.proofs.Tests.{chain-all, and-both}
-use Rattle.units.proofs.Updates.{at-same, at-other}
-use Rattle.layout.specs.Layout.{Layout, noChip, none, pages, pageIn, inBlock, pageBytes}
-use Rattle.layout.specs.Page.{Page, clean, pageOf, pageAt}
+use borrow.Author.Tests.{eqb-true, eqb-false}
+use Rattle.units.proofs.Looks.{by-test, both, at-last}
+use Rattle.layout.specs.Layout.{Layout, pageIn, inBlock}
+use Rattle.layout.specs.Page.{Page, pageAt}
 use Rattle.layout.specs.Record.{Record, recordAt}
 use Rattle.layout.specs.Collection.{Collection, collectionAt, idle}
 use Rattle.layout.specs.Images.{Images}
-use Rattle.layout.proofs.Limits.{Within}
-use Rattle.stores.specs.Store.{erase, collection, apply}
-use Rattle.stores.specs.Steps.{plain, applyAll, andThen, thenBelow}
-use Rattle.stores.proofs.View.{erasedPage, wiped, page-erased}
-use Rattle.stores.proofs.Prefixes.{Leads, leads-nil, leads-one, leads-cons, leads-then, leads-then-below, leads-weaken}
-use Rattle.rules.specs.Names.{named, unnamed}
-use Rattle.rules.specs.Blocks.{cleanIn, cleanBlock}
-use Rattle.rules.specs.Sound.{collecting, twin}
+use Rattle.layout.proofs.Pages.{same-place, in-own-block, in-other-block}
+use Rattle.stores.specs.Store.{apply}
+use Rattle.stores.specs.Steps.{andThen, thenBelow}
+use Rattle.stores.proofs.Prefixes.{Leads, leads-nil, leads-one, leads-then, leads-then-below, leads-weaken}
+use Rattle.rules.specs.Names.{named}
 use Rattle.rules.specs.Open.{ending, due, moveStep, moveFrom, moveSteps, finishOf, finishSteps}
-use Rattle.rules.proofs.Statements.{Usable, CollectionSound, ChipSound, OneTwin, Sound, sound-chip}
-use Rattle.rules.proofs.Names.{page-in-fits, same-place, in-own-block, in-other-block, place-in, page-number}
-use Rattle.rules.proofs.Kept.{Copies, Kept, kept-refl, kept-trans, kept-erase, kept-collection, collection-view}
+use Rattle.rules.proofs.Statements.{Usable, CollectionSound, ChipSound, Sound, sound-chip}
+use Rattle.rules.proofs.Kept.{Kept, kept-refl, kept-trans}
 use Rattle.rules.proofs.Moves.{kept-move, move-collection, move-to, move-from, move-other}
-use Rattle.rules.proofs.Ending.{Ended, dueAt, twin-is, is-twin, due-is, is-due, due-before, ending-leads}
+use Rattle.rules.proofs.Ending.{Ended, ending-leads}
+use Rattle.rules.proofs.Twins.{dueAt, twin-is, due-is, is-due, due-before}
 
 module _ (l : Layout) where
   -- what the moves before place i have left of the images s
@@ -48,7 +39,7 @@ module _ (l : Layout) where
     pub wiped-victim : collectionAt l (s .records) .phase ≡ 2 → Ended l s (collectionAt l (s .records) .chip) (collectionAt l (s .records) .victim) t
 
 module _ (l : Layout) (u : Usable l) where
-  open Layout l using (N, K, B)
+  open Layout l using (N, K)
 
   module _ (s : Images) (f : Sound l s) (busy : collectionAt l (s .records) .phase ≡ 2) where
     abbrev co : Collection
@@ -100,19 +91,19 @@ module _ (l : Layout) (u : Usable l) where
           rw (due-after i)
           (by-test (due l co x (recordAt l (t .records)) q)
           (λ h. both (named l (recordAt l (t .records)) c q) (move-to l u s f busy i place e)
-          (twin-is l (recordAt l (t .records)) x c (x q .copied) q (due-is l u co x (recordAt l (t .records)) q h .2) .free))
+          (twin-is l (recordAt l (t .records)) x c (x q .copied) q (due-is l co x (recordAt l (t .records)) q h .2) .free))
           (λ h. h))
 
       -- the original of what is due at q stands in the victim
       from-victim : inBlock l (co .victim) (x q .copied) ≡ true
-      from-victim = due-is l u co x r q e .0
+      from-victim = due-is l co x r q e .0
 
       -- what is due after the move was due before it
       due-earlier : (k : ℕ) → k < K → k ≢ i → due l co x (recordAt l (t .records)) (pageIn l (co .destination) k) ≡ true → dueAt l s k ≡ true
       due-earlier k fits other h =
           let q′ = pageIn l (co .destination) k in
-          let d = due-is l u co x (recordAt l (t .records)) q′ h in
-          due-before l u co x r (recordAt l (t .records)) q′ h
+          let d = due-is l co x (recordAt l (t .records)) q′ h in
+          due-before l co x r (recordAt l (t .records)) q′ h
           (λ n.
           rw (← move-other l u s f busy i place e (x q′ .copied)
           (λ same. both (named l (recordAt l (t .records)) c (x q′ .copied)) n (rw same (move-from l u s f busy i place e)))
@@ -130,7 +121,7 @@ module _ (l : Layout) (u : Usable l) where
           (λ h. h))
 
     -- the move of place i, or nothing where it is not due
-    pub move-leads : (i : ℕ) → i < K → Moved l s i s → Leads l (Kept l) (Moved l s (suc i)) (moveSteps l co i s) s
+    move-leads : (i : ℕ) → i < K → Moved l s i s → Leads l (Kept l) (Moved l s (suc i)) (moveSteps l co i s) s
     unfolding moveSteps moveFrom
     move-leads i place m =
         by-test (dueAt l s i)
@@ -149,7 +140,7 @@ module _ (l : Layout) (u : Usable l) where
         (record { collection = refl; chips = refl; not-due = λ k below. at-last k i below (m .not-due k) (λ h. rw h e) })))
 
     -- with nothing due, no page of the victim is named
-    pub victim-free : ((k : ℕ) → k < K → dueAt l s k ≡ false) → (i : ℕ) → i < K → named l r c (pageIn l (co .victim) i) ≡ false
+    victim-free : ((k : ℕ) → k < K → dueAt l s k ≡ false) → (i : ℕ) → i < K → named l r c (pageIn l (co .victim) i) ≡ false
     victim-free none-due i place = by-test (named l r c (pageIn l (co .victim) i))
         (λ n.
         let one = here .phase-2 busy refl i place n in
@@ -157,7 +148,7 @@ module _ (l : Layout) (u : Usable l) where
         let q = pageIn l (co .destination) (one .place) in
         let is = twin-is l r x c p q (one .is-twin) in
         both (dueAt l s (one .place))
-        (is-due l u co x r q
+        (is-due l co x r q
         (rw (is .copied) (in-own-block l (co .victim) i place))
         (rw (is .copied) n)
         (rw (is .copied) (one .is-twin)))

@@ -4,23 +4,30 @@ use native.Mathlib.Nat.{zero-mul, suc-mul, not-suc-le-zero}
 use native.Mathlib.Decide.{decLt}
 use native.Mathlib.Omega.{arith}
 use mathlib.Core.Path.{_≡_, refl, ap, _∙_}
+use mathlib.Core.Bool.{true}
 use mathlib.Core.List.{[], _∷_, _++_}
 use lib.ListN.{length}
-use borrow.Author.Tests.{lt-ltb, le-leb, lt-leb}
+use lib.Seq.{take-all}
+use lib.Dec.{lit≤, eqb}
+use borrow.Author.Tests.{lt-ltb, le-leb, lt-leb, ltb-false, eqb-true}
 use Rattle.units.specs.Update.{at}
-use Rattle.units.proofs.Looks.{at-last}
+use Rattle.units.proofs.Looks.{by-test, at-last}
 use Rattle.units.proofs.Numbers.{pow-positive}
+use Rattle.units.proofs.Tests.{chain-all}
 use Rattle.units.proofs.Updates.{at-same, at-other}
-use Rattle.layout.specs.Layout.{Layout, none, pages, recordBytes}
+use Rattle.layout.specs.Layout.{Layout, none, limits, pages, recordBytes}
 use Rattle.layout.specs.Page.{Page, pageAt}
 use Rattle.layout.specs.Record.{emptyRecord, recordAt, restBytes, bytesOfRecord}
 use Rattle.layout.specs.Collection.{collectionAt, idle, bytesOfCollection}
-use Rattle.layout.specs.Images.{Images, chipsLength, recordsLength, slotsLength}
+use Rattle.layout.specs.Images.{Images, lengths, chipsLength, recordsLength, slotsLength}
 use Rattle.layout.proofs.Codec.{RecordFits, CollectionFits, length-record, length-collection}
 use Rattle.stores.specs.Store.{apply, collection}
-use Rattle.stores.specs.Steps.{plain, applyAll, stepsBelow}
+use Rattle.stores.specs.Steps.{plain, applyAll, isCut, stepsBelow}
 use Rattle.stores.proofs.Runs.{apply-append, below-carries}
 use Rattle.stores.proofs.View.{erasedPage, wiped, page-erased, length-erased, length-recorded, record-stored, collection-stored, records-stay}
+use Rattle.rules.specs.Refusals.{buffersCheck, formatCheck}
+use Rattle.rules.specs.Calls.{run, formatCall}
+use Rattle.rules.specs.Book.{Verdict, verdict, done, cut, refused}
 use Rattle.rules.specs.Format.{eraseBlock, eraseChip, emptyStripe, formatSteps}
 
 module _ (l : Layout) where
@@ -139,11 +146,14 @@ module _ (l : Layout) where
         → Fresh (applyAll l (formatSteps l) s)
     unfolding formatSteps applyAll apply
     formatted s chips records slots =
+        let erasing = stepsBelow (N + 1) (eraseChip l) in
+        let emptying = stepsBelow S (emptyStripe l) in
+        let ending = plain (collection idle) ∷ [] in
+        let t = applyAll l erasing s in
+        let u = applyAll l emptying t in
         let e = erases s chips in
-        let t = applyAll l (stepsBelow (N + 1) (eraseChip l)) s in
         let r = empties t (ap length (e .records) ∙ records) in
-        let u = applyAll l (stepsBelow S (emptyStripe l)) t in
-        rw (apply-append l (stepsBelow (N + 1) (eraseChip l)) (stepsBelow S (emptyStripe l) ++ (plain (collection idle) ∷ [])) s, apply-append l (stepsBelow S (emptyStripe l)) (plain (collection idle) ∷ []) t)
+        rw (apply-append l erasing (emptying ++ ending) s, apply-append l emptying ending t)
         (record {
           chips = ap length (r .chips) ∙ e .chips;
           records = length-recorded l some (u .records) (r .records) S (omega arith) (bytesOfCollection l idle) (length-collection l some idle) ∙ r .records;
@@ -152,3 +162,44 @@ module _ (l : Layout) where
           stripe = λ j h. rw (records-stay l some (u .records) (r .records) idle idle-fits) (r .before j h);
           collection = collection-stored l some (u .records) (r .records) idle idle-fits;
         })
+
+-- what tells verdicts apart
+abbrev pub rank : Verdict → ℕ
+rank done = 0
+rank cut = 1
+rank refused = 2
+
+not-done : {P : Type 0} (v : Verdict) → 0 < rank v → v ≡ done → P
+not-done v h e = absurd (omega (arith, ap rank e))
+
+-- a format answered done has images of its geometry, and made its whole list
+pub format-done : (l : Layout) (s : Images) (allowance : ℕ) → verdict (formatCall l s allowance .answer) ≡ done
+    → (limits l ≡ true) × (lengths l s ≡ true) × (formatCall l s allowance .images ≡ applyAll l (formatSteps l) s)
+unfolding formatCall formatCheck buffersCheck run
+format-done l s allowance e =
+    by-test (limits l)
+    (λ fit. by-test (lengths l s)
+    (λ long. by-test (isCut allowance (formatSteps l))
+    (λ short. not-done cut (lit≤ tt) (rw (fit, long, short) at e))
+    (λ enough. (fit, long, rw (fit, long, take-all allowance (formatSteps l) (ltb-false allowance (length (formatSteps l)) enough)))))
+    (λ long. not-done refused (lit≤ tt) (rw (fit, long) at e)))
+    (λ fit. not-done refused (lit≤ tt) (rw fit at e))
+
+-- the test of the lengths, as statements
+pub lengths-are : (l : Layout) (s : Images) → lengths l s ≡ true
+    → (length (s .chips) ≡ chipsLength l) × (length (s .records) ≡ recordsLength l) × (length (s .slots) ≡ slotsLength l)
+unfolding lengths
+lengths-are l s e =
+    let h = chain-all (eqb (length (s .chips)) (chipsLength l)) (eqb (length (s .records)) (recordsLength l) ∷ eqb (length (s .slots)) (slotsLength l) ∷ []) e in (
+      eqb-true (length (s .chips)) (chipsLength l) (h .0),
+      eqb-true (length (s .records)) (recordsLength l) (h .1 .0),
+      eqb-true (length (s .slots)) (slotsLength l) (h .1 .1 .0),
+    )
+
+-- what a format answered done leaves
+pub format-fresh : (l : Layout) → 1 ≤ l .D → l .D ≤ 4 → (s : Images) (allowance : ℕ) → verdict (formatCall l s allowance .answer) ≡ done
+    → (limits l ≡ true) × Fresh l (formatCall l s allowance .images)
+format-fresh l some narrow s allowance e =
+    let (fit, long, is) = format-done l s allowance e in
+    let (chips, records, slots) = lengths-are l s long in
+    (fit, rw is (formatted l narrow some s chips records slots))

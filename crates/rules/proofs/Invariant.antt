@@ -1,11 +1,10 @@
 -- What holds of the images and the book from a finished format on, whatever is called and wherever it is cut.
-use Prim.Native.Nat.{ℕ, _*_, _<_, _≤_}
+use Prim.Native.Nat.{ℕ, _*_, _<_}
 use native.Mathlib.Omega.{arith}
-use mathlib.Core.Path.{_≡_, refl, sym, ap, _∙_}
-use mathlib.Core.Logic.{_≢_}
+use mathlib.Core.Path.{_≡_, sym, ap, _∙_}
 use mathlib.Core.Bool.{true, true≢false}
-use mathlib.Core.List.{List, []}
-use lib.ListN.{length, replicate}
+use mathlib.Core.List.{List}
+use lib.ListN.{length}
 use borrow.Author.Tests.{eqb-true, eqb-false}
 use lib.Dec.{eqb}
 use Rattle.units.specs.Update.{at}
@@ -14,23 +13,24 @@ use Rattle.units.proofs.Updates.{at-same, at-other}
 use Rattle.layout.specs.Layout.{Layout, noChip, none}
 use Rattle.layout.specs.Rotation.{parityChip, memberOf, stripeOf}
 use Rattle.layout.specs.Page.{pageAt}
-use Rattle.layout.specs.Record.{Record, bit, emptyRecord, recordAt}
+use Rattle.layout.specs.Record.{Record, bit, emptyRecord}
 use Rattle.layout.specs.Collection.{Collection, collectionAt}
-use Rattle.layout.specs.Images.{Images, slotAt}
+use Rattle.layout.specs.Images.{Images}
+use Rattle.layout.proofs.Rotations.{stripe-fits}
 use Rattle.stores.specs.declared.Counts.{Counts}
 use Rattle.rules.specs.declared.Reading.the-variants.{Done as ReadDone}
 use Rattle.rules.specs.Refusals.{lostNamed}
-use Rattle.rules.specs.Read.{fetch}
+use Rattle.rules.specs.Read.{Fetched, fetch}
 use Rattle.rules.specs.Calls.{ReadOutcome, readCall}
 use Rattle.rules.specs.Book.{Book, finished}
 use Rattle.rules.proofs.Fresh.{Fresh}
 use Rattle.rules.proofs.Statements.{Usable, SoundBut, Sound}
-use Rattle.rules.proofs.Checks.{sound-but, fresh-sound}
 use Rattle.rules.proofs.Accepted.{read-passes}
-use Rattle.rules.proofs.Contents.{Data, StripeData, bytes-none, gathered-none, underParity}
-use Rattle.rules.proofs.Rebuild.{stripe-fits, fetch-unwritten, fetch-rebuilt}
-use Rattle.rules.proofs.Kept.{Copies, CopiesOf}
+use Rattle.rules.proofs.Contents.{Data, bytes-none, gathered-none, underParity}
+use Rattle.rules.proofs.Rebuild.{fetch-unwritten, fetch-rebuilt}
+use Rattle.rules.proofs.Kept.{CopiesOf}
 use Rattle.rules.proofs.Carries.{Carries, Wrote}
+use Rattle.rules.proofs.FreshSound.{fresh-sound}
 
 module _ (l : Layout) where
   open Layout l using (N, W, S)
@@ -90,7 +90,7 @@ module _ (l : Layout) where
       sound = fresh-sound l (u .within) s f;
       copies = no-copies s (ap (λ (o : Collection). o .phase) (f .collection));
       data-too = fresh-data s f;
-      reads = λ i h. fetch-unwritten l s noChip i (ap (λ (r : Record). r .current (memberOf l i)) (f .stripe (stripeOf l i) (stripe-fits l (u .within) i h)));
+      reads = λ i h. ap (λ (x : Fetched). x .bytes) (fetch-unwritten l s noChip i (ap (λ (r : Record). r .current (memberOf l i)) (f .stripe (stripeOf l i) (stripe-fits l (u .within) i h))));
     }
 
     -- Of images t that a read naming `lost` takes for s, the read is not refused and gives the book's page.

@@ -6,7 +6,6 @@ use mathlib.Core.Path.{_≡_, refl, ap, _∙_}
 use mathlib.Core.Logic.{_≢_}
 use mathlib.Core.Bool.{false}
 use mathlib.Core.List.{List}
-use Rattle.units.specs.Update.{at}
 use Rattle.units.proofs.Updates.{at-same, at-other}
 use Rattle.layout.specs.Layout.{Layout, noChip, isNone, pages}
 use Rattle.layout.specs.Rotation.{memberOf, stripeOf}
@@ -14,24 +13,27 @@ use Rattle.layout.specs.Page.{pageAt}
 use Rattle.layout.specs.Record.{Record, recordAt}
 use Rattle.layout.specs.Collection.{Collection, collectionAt}
 use Rattle.layout.specs.Images.{Images, slotAt}
+use Rattle.layout.proofs.Records.{SixMembers}
 use Rattle.stores.specs.Store.{stripe, apply}
 use Rattle.rules.specs.Names.{mainNumber, sideNumber, named}
 use Rattle.rules.specs.Read.{fetch}
 use Rattle.rules.proofs.Statements.{Usable, RecordSound, Tagged, Sound, sound-chip}
 use Rattle.rules.proofs.Contents.{StripeData, Data}
-use Rattle.rules.proofs.Kept.{CopiesOf, stripe-view, stripe-collection}
+use Rattle.rules.proofs.Kept.{CopiesOf, no-copies-yet}
 use Rattle.rules.proofs.Carries.{same-read}
-use Rattle.rules.proofs.Entries.{SixMembers, TaggedBy}
+use Rattle.rules.proofs.Entries.{TaggedBy}
+use Rattle.rules.proofs.Storing.{stripe-view, stripe-collection}
 
-module _ (l : Layout) (u : Usable l) where
-  open Layout l using (S)
-
+module _ (l : Layout) where
   -- the new page of stripe j on chip c: it is whole, tagged, and no record names it yet
   pub record NewPage (s : Images) (c j p : ℕ) (xs : List ℕ) : Type 0 where
     pub fits : p < pages l
     pub unnamed : named l (recordAt l (s .records)) c p ≡ false
     pub tagged : Tagged l (pageAt l (s .chips) c) c j p
     pub bytes : pageAt l (s .chips) c p .bytes ≡ xs
+
+module _ (l : Layout) (u : Usable l) where
+  open Layout l using (S)
 
   -- the pages of stripe j are tagged
   pub main-tagged : (t : Images) → Sound l t → (j : ℕ) → j < S → TaggedBy l (pageAt l (t .chips)) j (λ c. mainNumber l c j (recordAt l (t .records) j))
@@ -64,8 +66,9 @@ module _ (l : Layout) (u : Usable l) where
     -- a collection at rest has no copies
     pub stored-copies : collectionAt l (t .records) .phase ≡ 0 → CopiesOf l after
     stored-copies rest =
-        let still = ap (λ (co : Collection). co .phase) (stripe-collection l u t f j r′ fits sound′ six) ∙ rest in
-        record { bytes = λ busy. absurd (omega (arith, still, busy)); ranks = λ busy. absurd (omega (arith, still, busy)) }
+        let co = collectionAt l (after .records) in
+        let still : co .phase ≡ 0 = ap (λ (o : Collection). o .phase) (stripe-collection l u t f j r′ fits sound′ six) ∙ rest in
+        no-copies-yet l (recordAt l (after .records)) (pageAt l (after .chips) (co .chip)) co (omega (arith, still))
 
     pub stored-data : StripeData l (pageAt l (t .chips)) (slotAt l (t .slots)) j r′ → Data l t → Data l after
     stored-data here there i h = rw (stored-chips, stored-slots) (elim (ℕ-discrete i j) [

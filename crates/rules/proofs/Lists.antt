@@ -1,8 +1,7 @@
 -- The list of each call that is not refused: what every prefix of it keeps.
-use Prim.Native.Nat.{ℕ, _<_}
+use Prim.Native.Nat.{ℕ}
 use mathlib.Core.Path.{_≡_}
 use mathlib.Core.Logic.{_≢_}
-use mathlib.Core.Bool.{true, false}
 use mathlib.Core.List.{List, []}
 use lib.ListN.{length}
 use lib.Seq.{take-all}
@@ -12,7 +11,7 @@ use Rattle.units.proofs.Looks.{by-test, by-order}
 use Rattle.layout.specs.Layout.{Layout, noChip}
 use Rattle.layout.specs.Images.{Images}
 use Rattle.stores.specs.Steps.{Step, made, applyAll}
-use Rattle.stores.proofs.Prefixes.{Every, every-nil, Leads, Closes, closes-leads, closes-weaken}
+use Rattle.stores.proofs.Prefixes.{Every, every-nil, Closes, closes-leads, closes-weaken}
 use Rattle.rules.specs.Open.{finishSteps, openSteps}
 use Rattle.rules.specs.Collect.{collectSteps}
 use Rattle.rules.specs.Commit.{commitSteps}

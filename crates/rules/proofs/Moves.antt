@@ -1,30 +1,27 @@
 -- The move of a copy: the record store that puts a copy in place of its original, in phase 2.
-use Prim.Native.Nat.{ℕ, _+_, _≤_, _<_}
+use Prim.Native.Nat.{ℕ, _+_, _<_}
 use native.Mathlib.Omega.{arith}
 use mathlib.Core.Path.{_≡_, refl, _∙_}
 use mathlib.Core.Logic.{_≢_}
 use mathlib.Core.Bool.{true, false}
-use mathlib.Core.List.{List}
-use borrow.Author.Tests.{le-ltb}
 use Rattle.units.specs.Update.{at}
-use Rattle.layout.specs.Layout.{Layout, none, pageIn}
+use Rattle.units.proofs.Looks.{by-same}
+use Rattle.layout.specs.Layout.{Layout, pageIn}
 use Rattle.layout.specs.Page.{Page, pageAt}
-use Rattle.layout.specs.Record.{Record, sixFrom, recordOf, bytesOfRecord, recordAt}
+use Rattle.layout.specs.Record.{Record, bytesOfRecord, recordAt}
 use Rattle.layout.specs.Collection.{Collection, collectionAt}
 use Rattle.layout.specs.Images.{Images}
 use Rattle.layout.proofs.Codec.{length-record}
+use Rattle.layout.proofs.Records.{SixMembers, six-members}
 use Rattle.stores.specs.Store.{apply}
 use Rattle.stores.proofs.View.{length-recorded}
 use Rattle.rules.specs.Names.{named}
 use Rattle.rules.specs.Open.{due, moveStep, repointed}
-use Rattle.rules.proofs.Statements.{Usable, RecordSound, ChipSound, Sound}
-use Rattle.rules.proofs.Kept.{Kept, stripe-view, stripe-collection, chip-sound, sound-records}
-use Rattle.rules.proofs.Repoint.{by-same, Moving, new-records, new-slot, new-bitmap, new-chip, new-chip-other, new-sound, new-beyond, new-copies, new-to, new-from, new-name, same-main, same-side, stripe-fits}
-
--- a decoded record has no number beyond the six
-beyond-six : (l : Layout) (records : List ℕ) (j m : ℕ) → 6 ≤ m → (recordAt l records j .current m ≡ none l) × (recordAt l records j .old m ≡ none l)
-unfolding recordAt recordOf sixFrom
-beyond-six l records j m h = rw (le-ltb m 6 h) (refl, refl)
+use Rattle.rules.proofs.Statements.{Usable, RecordSound, ChipSound, Sound, sound-chip}
+use Rattle.rules.proofs.Kept.{Kept}
+use Rattle.rules.proofs.Moving.{Moving, new-records, new-slot, new-bitmap, new-chip, new-chip-other, new-sound, new-beyond, new-copies, new-to, new-from}
+use Rattle.rules.proofs.Moving.{new-name, same-main, same-side, stripe-fits}
+use Rattle.rules.proofs.Storing.{stripe-view, stripe-collection, sound-records}
 
 module _ (l : Layout) (u : Usable l) (s : Images) (f : Sound l s) where
   open Layout l using (N, K, S)
@@ -54,7 +51,7 @@ module _ (l : Layout) (u : Usable l) (s : Images) (f : Sound l s) where
     new = at (x q .stripe) stored r
 
     here : ChipSound l r x (co .chip) co
-    here = chip-sound l u s f (co .chip) (omega (arith, f .stripes .collection .chip (omega (arith, busy))))
+    here = sound-chip l u s f (co .chip) (omega (arith, f .stripes .collection .chip (omega (arith, busy))))
 
     moving : Moving l r x co k
     moving = record { within = u .within; records = f .stripes; chip = here; busy = busy; fits = fits; is-due = is-due }
@@ -65,8 +62,8 @@ module _ (l : Layout) (u : Usable l) (s : Images) (f : Sound l s) where
     stored-sound : RecordSound l stored
     stored-sound = new-sound l r x co k moving
 
-    stored-beyond : (m : ℕ) → 6 ≤ m → (stored .current m ≡ none l) × (stored .old m ≡ none l)
-    stored-beyond m h = new-beyond l r x co k moving m (beyond-six l (s .records) (x q .stripe) m h)
+    stored-beyond : SixMembers l stored
+    stored-beyond m h = new-beyond l r x co k moving m (six-members l (s .records) (x q .stripe) m h)
 
     move-records : recordAt l (after .records) ≡ new
     move-records = stripe-view l u s f (x q .stripe) stored stripe-is stored-sound stored-beyond
@@ -87,7 +84,7 @@ module _ (l : Layout) (u : Usable l) (s : Images) (f : Sound l s) where
     chip-after : (c : ℕ) → c < N + 1 → ChipSound l new (pageAt l (s .chips) c) c co
     chip-after c h = by-same c (co .chip)
         (λ e. rw e (new-chip l r x co k moving))
-        (λ o. new-chip-other l r x co k moving c (pageAt l (s .chips) c) o (chip-sound l u s f c h))
+        (λ o. new-chip-other l r x co k moving c (pageAt l (s .chips) c) o (sound-chip l u s f c h))
 
     move-sound : Sound l after
     unfolding apply
@@ -97,6 +94,7 @@ module _ (l : Layout) (u : Usable l) (s : Images) (f : Sound l s) where
         ∙ f .records)
         new co move-records move-collection (new-records l r x co k moving) chip-after
 
+    -- the store keeps what the images hold
     pub kept-move : Kept l s after
     unfolding apply
     kept-move = record {

@@ -1,62 +1,28 @@
--- Pages and names: numbers on a chip, and what soundness says of the pages that records name.
-use Prim.Native.Nat.{ℕ, zero, suc, _+_, _-_, _*_, _/_, _%_, _≤_, _<_, suc-le-suc}
-use native.Mathlib.Nat.{mul-zero, mod-lt, div-add-mod', div-lt-iff-lt-mul}
-use native.Mathlib.Numerals.{add-one}
+-- Names: the numbers of a stripe on each chip, and what soundness says of the pages that records name.
+use Prim.Native.Nat.{ℕ, _+_, _<_}
 use native.Mathlib.Decide.{ℕ-discrete}
-use native.Mathlib.Omega.{arith}
-use mathlib.Core.Path.{_≡_, refl, sym, ap, _∙_}
+use mathlib.Core.Path.{_≡_, refl, sym, _∙_}
 use mathlib.Core.Logic.{_≢_}
 use mathlib.Core.Bool.{true, false}
-use lib.Arith.{digits-lt, le-zero}
-use lib.Dec.{eqb, leb, ltb}
-use borrow.Author.Tests.{lt-ltb, le-leb, ltb-true, leb-true, eq-eqb, ne-eqb, eqb-true}
-use Rattle.units.proofs.Looks.{by-test, by-order, at-last, both, all-at, some-true, some-at, some-false}
-use Rattle.units.proofs.Tests.{and-both, or-right}
-use Rattle.layout.specs.Layout.{Layout, none, pages, pageIn, inBlock}
+use lib.Dec.{eqb}
+use borrow.Author.Tests.{eq-eqb, ne-eqb, eqb-true}
+use Rattle.units.proofs.Looks.{by-test, both, all-at, some-true, some-at, some-false}
+use Rattle.units.proofs.Tests.{or-right}
+use Rattle.layout.specs.Layout.{Layout, none, pageIn}
 use Rattle.layout.specs.Rotation.{parityChip, memberChip, memberOn}
 use Rattle.layout.specs.Page.{Page, dataKind, parityKind, clean}
-use Rattle.layout.specs.Record.{Record, bit, noSlot, hasSlot}
+use Rattle.layout.specs.Record.{Record, hasSlot}
 use Rattle.layout.specs.Collection.{Collection}
 use Rattle.layout.proofs.Limits.{Within}
-use Rattle.layout.proofs.Bits.{bit-test, test-zero}
 use Rattle.layout.proofs.Rotations.{member-chip-other, member-of-chip, chip-of-member, member-on-fits}
-use Rattle.stores.proofs.View.{same-index}
+use Rattle.layout.proofs.Pages.{page-in-fits, page-number}
 use Rattle.rules.specs.Names.{mainNumber, sideNumber, kindOn, memberTag, names, named}
 use Rattle.rules.specs.Blocks.{cleanIn, cleanBlock}
-use Rattle.rules.proofs.Statements.{RecordSound, Tagged, ChipSound}
+use Rattle.rules.proofs.Statements.{RecordSound, Tagged, ChipSound, sound-member}
+use Rattle.rules.proofs.Contents.{bit-slot}
 
 module _ (l : Layout) where
   open Layout l using (N, K, B, S)
-
-  -- places
-  pub page-in-fits : (b i : ℕ) → b < B → i < K → pageIn l b i < pages l
-  page-in-fits b i block place = digits-lt block place
-
-  pub same-place : (b i b′ i′ : ℕ) → i < K → i′ < K → pageIn l b i ≡ pageIn l b′ i′ → (b ≡ b′) × (i ≡ i′)
-  same-place b i b′ i′ h h′ e = same-index K b i b′ i′ h h′ e
-
-  some-places : (p : ℕ) → p < pages l → 0 < K
-  some-places p h = by-order 0 K (λ k. k) (λ k. let e : K ≡ 0 = omega arith in absurd (omega (arith, h, ap (λ (x : ℕ). B * x) e, mul-zero B)))
-
-  pub place-of : (p : ℕ) → p < pages l → (b : ℕ) × (i : ℕ) × (b < B) × (i < K) × (p ≡ pageIn l b i)
-  place-of p h =
-      (p / K, p % K, div-lt-iff-lt-mul (some-places p h) .1 h, mod-lt p (some-places p h), sym (div-add-mod' p K))
-
-  pub in-own-block : (b i : ℕ) → i < K → inBlock l b (pageIn l b i) ≡ true
-  in-own-block b i place = rw (le-leb (b * K) (b * K + i) (omega arith), lt-ltb (b * K + i) (b * K + K) (omega arith))
-
-  pub place-in : (b p : ℕ) → inBlock l b p ≡ true → (i : ℕ) × (i < K) × (p ≡ pageIn l b i)
-  place-in b p e =
-      let h = and-both (leb (b * K) p) (ltb p (b * K + K)) e in
-      let low = leb-true (b * K) p (h .0) in
-      let high = ltb-true p (b * K + K) (h .1) in
-      (p - b * K, omega arith, omega arith)
-
-  pub in-other-block : (b b′ i : ℕ) → b ≢ b′ → i < K → inBlock l b (pageIn l b′ i) ≡ false
-  in-other-block b b′ i d place =
-      by-test (inBlock l b (pageIn l b′ i))
-      (λ t. let (k, h, e) = place-in b (pageIn l b′ i) t in absurd (d (same-place b k b′ i h place (sym e) .0)))
-      (λ t. t)
 
   -- the numbers of a stripe on the chip of a member, and on the parity's
   pub main-member : (j m : ℕ) (r : Record) → mainNumber l (memberChip l j m) j r ≡ r .current m
@@ -91,6 +57,7 @@ module _ (l : Layout) where
   unfolding memberTag
   tag-parity j = rw (eq-eqb (parityChip l j) (parityChip l j) refl)
 
+  -- a chip is the parity's or a member's
   pub by-chip {ℓ} : {P : Type ℓ} (c j : ℕ) → c < N + 1 → (c ≡ parityChip l j → P) → ((m : ℕ) → m < N → c ≡ memberChip l j m → P) → P
   by-chip c j chip parity member = elim (ℕ-discrete c (parityChip l j)) [
     | yes e ↦ parity e
@@ -99,40 +66,11 @@ module _ (l : Layout) where
 
   -- a record's own numbers
   module _ (w : Within l) where
-    pub page-number : (p : ℕ) → p < pages l → p ≢ none l
-    page-number p h e = omega (arith, w .pages-numbered)
-
-    pub main-fits : (r : Record) → RecordSound l r → (c j : ℕ) → c < N + 1 → mainNumber l c j r ≢ none l → mainNumber l c j r < pages l
-    main-fits r f c j chip =
-        by-chip c j chip
-        (λ e. rw (e, main-parity j r) (f .parity))
-        (λ m h e. rw (e, main-member j m r) (f .member m (omega (arith, w .members-high)) .current))
-
-    pub side-fits : (r : Record) → RecordSound l r → (c j : ℕ) → c < N + 1 → sideNumber l c j r ≢ none l → sideNumber l c j r < pages l
-    side-fits r f c j chip =
-        by-chip c j chip
-        (λ e. rw (e, side-parity j r) (λ d. absurd (d refl)))
-        (λ m h e. rw (e, side-member j m r) (f .member m (omega (arith, w .members-high)) .old))
-
-    pub side-beside : (r : Record) → RecordSound l r → (c j : ℕ) → c < N + 1 → sideNumber l c j r ≢ none l
-        → (mainNumber l c j r ≢ none l) × (mainNumber l c j r ≢ sideNumber l c j r)
-    side-beside r f c j chip =
-        by-chip c j chip
-        (λ e. rw (e, side-parity j r) (λ d. absurd (d refl)))
-        (λ m h e.
-        let g = f .member m (omega (arith, w .members-high)) in
-        rw (e, side-member j m r, main-member j m r) (λ d. g .current-under-bit (g .old-under-bit d)))
-
-    bit-slot : (r : Record) → RecordSound l r → (m : ℕ) → bit r m ≡ true → hasSlot r ≡ true
-    bit-slot r f m t =
-        let low : r .bitmap ≢ 0 = λ e. both (bit r m) t (rw (bit-test r m, e) (test-zero m)) in
-        rw (ne-eqb (r .slot) noSlot (λ e. omega (arith, f .slot low, w .partials-high)))
-
     pub side-slot : (r : Record) → RecordSound l r → (c j : ℕ) → c < N + 1 → sideNumber l c j r ≢ none l → hasSlot r ≡ true
     side-slot r f c j chip =
         by-chip c j chip
         (λ e. rw (e, side-parity j r) (λ d. absurd (d refl)))
-        (λ m h e. rw (e, side-member j m r) (λ d. bit-slot r f m (f .member m (omega (arith, w .members-high)) .old-under-bit d)))
+        (λ m h e. rw (e, side-member j m r) (λ d. bit-slot l w r f m (sound-member l w r f m h .old-under-bit d)))
 
   -- names
   module _ (r : ℕ → Record) (c p : ℕ) where
@@ -155,6 +93,7 @@ module _ (l : Layout) where
     unfolding names
     not-names j d d′ = rw (ne-eqb (mainNumber l c j (r j)) p d, ne-eqb (sideNumber l c j (r j)) p d′)
 
+    -- a page is named where a stripe names it
     pub named-by : named l r c p ≡ true → (j : ℕ) × (j < S) × (names l r c p j ≡ true)
     unfolding named
     named-by t = some-at S (names l r c p) t
@@ -178,6 +117,7 @@ module _ (l : Layout) where
     tagged-as : (p q j : ℕ) → q ≡ p → p ≢ none l → (q ≢ none l → Tagged l x c j q) → Tagged l x c j p
     tagged-as p q j e d = rw e (λ g. g d)
 
+    -- it has the tag of its stripe, so one stripe names it, and it is not clean
     pub name-tagged : (p j : ℕ) → j < S → p ≢ none l → names l r c p j ≡ true → Tagged l x c j p
     name-tagged p j h d t =
         by-name r c p j t
@@ -203,12 +143,4 @@ module _ (l : Layout) where
     pub clean-block-unnamed : Within l → (b : ℕ) → b < B → cleanBlock l x b ≡ true → (i : ℕ) → i < K → named l r c (pageIn l b i) ≡ false
     unfolding cleanBlock
     clean-block-unnamed w b block t i place =
-        clean-unnamed (pageIn l b i) (page-number w (pageIn l b i) (page-in-fits b i block place)) (all-at K (cleanIn l x b) t i place)
-
-    -- behind a clean page of a block there is none that is used
-    pub clean-behind : (b i k : ℕ) → b < B → i ≤ k → k < K → cleanIn l x b i ≡ true → cleanIn l x b k ≡ true
-    clean-behind b i zero block h place t = let e : i ≡ 0 = le-zero h in rw e at t
-    clean-behind b i (suc k) block h place t =
-        at-last i (suc k) (suc-le-suc h)
-        (λ low. rw add-one at (f .order b k block (omega arith) (clean-behind b i k block (omega arith) (omega arith) t)))
-        (λ e. rw e at t)
+        clean-unnamed (pageIn l b i) (page-number l w (pageIn l b i) (page-in-fits l b i block place)) (all-at K (cleanIn l x b) t i place)

@@ -1,5 +1,5 @@
 -- The two XOR groups of a stripe under a rebuilt read, a write and a commit.
-use Prim.Native.Nat.{ℕ, _≤_, _<_}
+use Prim.Native.Nat.{ℕ, _<_}
 use native.Mathlib.Decide.{ℕ-discrete}
 use native.Mathlib.Omega.{arith}
 use mathlib.Core.Path.{_≡_, refl, sym, ap, _∙_}
@@ -12,7 +12,7 @@ use borrow.Author.Tests.{eq-eqb, ne-eqb}
 use Rattle.units.specs.Xor.{_⊕_}
 use Rattle.units.proofs.Looks.{by-test, both}
 use Rattle.units.proofs.Updates.{at-same, at-other}
-use Rattle.units.proofs.Xors.{xor-nil-l, xor-nil-r, xors-comm, xors-assoc, xors-swap, xors-cancel, length-xors-right}
+use Rattle.units.proofs.Xors.{xor-nil-l, xor-nil-r, cancel-around, cancel-inside, cancel-rest}
 use Rattle.layout.specs.Layout.{Layout, none}
 use Rattle.layout.specs.Rotation.{parityChip, memberChip}
 use Rattle.layout.specs.Page.{Page}
@@ -20,26 +20,15 @@ use Rattle.layout.specs.Record.{Record, bit, hasSlot}
 use Rattle.layout.proofs.Limits.{Within}
 use Rattle.layout.proofs.Bits.{test-set-same, test-set-other}
 use Rattle.layout.proofs.Rotations.{member-chip-fits}
+use Rattle.layout.proofs.Records.{bits-of-none}
 use Rattle.rules.specs.Gather.{bytesAt, gathered}
 use Rattle.rules.specs.Read.{othersInside, othersUnderParity}
-use Rattle.rules.specs.Write.{written}
-use Rattle.rules.specs.Commit.{setBits, mostInPartial, currentOutside, oldInside, committed}
-use Rattle.rules.proofs.Statements.{Numbered, MemberSound, RecordSound}
+use Rattle.rules.specs.Write.{newPartial, written}
+use Rattle.rules.specs.Commit.{setBits, mostInPartial, currentOutside, oldInside, newParity, committed}
+use Rattle.rules.proofs.Statements.{Numbered, RecordSound, sound-member}
 use Rattle.rules.proofs.Contents.{currentInside, underParity, StripeData, Whole, bytes-none, bytes-page, numbered-none, numbered-cond, length-bytes}
-use Rattle.rules.proofs.Contents.{gathered-cong, gathered-same, gathered-none, gathered-one, gathered-split, length-gathered, gathered-whole}
-use Rattle.rules.proofs.Contents.{some-bit, bits-of-none, bit-slot, no-slot-no-bit}
-
--- ---- general: a list met twice drops out
-
-cancel-rest : (x g b : List ℕ) → x ≡ g ⊕ b → length g ≤ length b → x ⊕ g ≡ b
-cancel-rest x g b e h = rw (e, xors-comm g b) (xors-cancel b g h)
-
-cancel-inside : (a b c : List ℕ) → length b ≤ length c → a ⊕ b ⊕ b ⊕ c ≡ a ⊕ c
-cancel-inside a b c h =
-    rw (xors-assoc (a ⊕ b) b c, xors-assoc a b (b ⊕ c), xors-comm b (b ⊕ c), xors-comm b c, xors-cancel c b h)
-
-cancel-around : (a b c : List ℕ) → length b ≤ length a → a ⊕ (b ⊕ c ⊕ b) ≡ a ⊕ c
-cancel-around a b c h = rw (xors-swap b c b, ← xors-assoc a (b ⊕ b) c, ← xors-assoc a b b, xors-cancel a b h)
+use Rattle.rules.proofs.Contents.{gathered-cong, gathered-same, gathered-none, gathered-one, gathered-split, length-gathered, gathered-whole, some-bit, bit-slot}
+use Rattle.rules.proofs.Contents.{no-slot-no-bit}
 
 -- ---- the record of a write
 
@@ -70,7 +59,7 @@ module _ (l : Layout) (m p i : ℕ) (r : Record) where
   written-old-other k d = by-test (bit r m) (λ t. rw t) (λ t. rw (t, at-other m (r .current m) (r .old) k d))
 
   -- so the group under the parity does not change
-  pub written-under-parity : (k : ℕ) → underParity l (written l m p i r) k ≡ underParity l r k
+  written-under-parity : (k : ℕ) → underParity l (written l m p i r) k ≡ underParity l r k
   unfolding underParity
   written-under-parity k = elim (ℕ-discrete k m) [
     | yes e ↦ rw (e, written-bit) written-old
@@ -97,11 +86,11 @@ module _ (l : Layout) (m : ℕ) (r : Record) where
   unfolding othersInside currentInside
   others-inside-other k d = rw (ne-eqb k m d, and-true)
 
-  pub inside-set : bit r m ≡ true → currentInside l r m ≡ r .current m
+  inside-set : bit r m ≡ true → currentInside l r m ≡ r .current m
   unfolding currentInside
   inside-set t = rw t
 
-  pub inside-clear : bit r m ≡ false → currentInside l r m ≡ none l
+  inside-clear : bit r m ≡ false → currentInside l r m ≡ none l
   unfolding currentInside
   inside-clear t = rw t
 
@@ -112,7 +101,7 @@ module _ (l : Layout) (m : ℕ) (r : Record) where
     | no d ↦ sym (others-inside-other k d)
   ]
 
-  pub under-parity-clear : bit r m ≡ false → underParity l r m ≡ r .current m
+  under-parity-clear : bit r m ≡ false → underParity l r m ≡ r .current m
   unfolding underParity
   under-parity-clear t = rw t
 
@@ -125,36 +114,33 @@ module _ (l : Layout) (m : ℕ) (r : Record) where
   under-parity-other k d = rw (ne-eqb k m d)
 
 -- the record of a commit has every current page under the parity
-pub committed-under-parity : (l : Layout) (p : ℕ) (r : Record) (m : ℕ) → underParity l (committed l p r) m ≡ r .current m
+committed-under-parity : (l : Layout) (p : ℕ) (r : Record) (m : ℕ) → underParity l (committed l p r) m ≡ r .current m
 unfolding committed
-committed-under-parity l p r m = under-parity-clear l m (committed l p r) (bits-of-none l (committed l p r) refl m)
+committed-under-parity l p r m = under-parity-clear l m (committed l p r) (bits-of-none (committed l p r) refl m)
 
 -- ---- the numbers of a sound record are pages or none
 
 module _ (l : Layout) (w : Within l) (r : Record) (f : RecordSound l r) where
   open Layout l using (N)
 
-  sound-member : (m : ℕ) → m < N → MemberSound l r m
-  sound-member m h = f .member m (omega (arith, w .members-high))
-
   numbered-inside : (m : ℕ) → m < N → Numbered l (currentInside l r m)
   unfolding currentInside
-  numbered-inside m h = numbered-cond l (bit r m) (r .current m) (none l) (sound-member m h .current) (numbered-none l)
+  numbered-inside m h = numbered-cond l (bit r m) (r .current m) (none l) (sound-member l w r f m h .current) (numbered-none l)
 
   numbered-old : (m : ℕ) → m < N → Numbered l (oldInside l r m)
   unfolding oldInside
-  numbered-old m h = numbered-cond l (bit r m) (r .old m) (none l) (sound-member m h .old) (numbered-none l)
+  numbered-old m h = numbered-cond l (bit r m) (r .old m) (none l) (sound-member l w r f m h .old) (numbered-none l)
 
   numbered-others-inside : (m k : ℕ) → k < N → Numbered l (othersInside l m r k)
   unfolding othersInside
   numbered-others-inside m k h =
-      numbered-cond l (bit r k && not (eqb k m)) (r .current k) (none l) (sound-member k h .current) (numbered-none l)
+      numbered-cond l (bit r k && not (eqb k m)) (r .current k) (none l) (sound-member l w r f k h .current) (numbered-none l)
 
   numbered-others-under-parity : (m k : ℕ) → k < N → Numbered l (othersUnderParity l m r k)
   unfolding othersUnderParity
   numbered-others-under-parity m k h =
-      numbered-cond l (bit r k) (r .old k) (cond (eqb k m) (none l) (r .current k)) (sound-member k h .old)
-      (numbered-cond l (eqb k m) (none l) (r .current k) (numbered-none l) (sound-member k h .current))
+      numbered-cond l (bit r k) (r .old k) (cond (eqb k m) (none l) (r .current k)) (sound-member l w r f k h .old)
+      (numbered-cond l (eqb k m) (none l) (r .current k) (numbered-none l) (sound-member l w r f k h .current))
 
 -- ---- the groups together
 
@@ -174,20 +160,6 @@ module _ (l : Layout) (y : ℕ → ℕ → Page) (j : ℕ) (r : Record) where
       (λ m h. by-test (bit r m)
       (λ t. rw (t, bytes-none l y (memberChip l j m)) (xor-nil-r (bytesAt l y (memberChip l j m) (r .old m))))
       (λ t. rw (t, bytes-none l y (memberChip l j m)) (xor-nil-l (bytesAt l y (memberChip l j m) (r .current m)))))
-
--- ---- what a write of xs to member m makes of the partial parity, and a commit of the parity
-
-module _ (l : Layout) (y : ℕ → ℕ → Page) (z : ℕ → List ℕ) (j : ℕ) (r : Record) where
-  abbrev pub partialAfter : ℕ → List ℕ → List ℕ
-  partialAfter m xs =
-      cond (hasSlot r) (cond (bit r m) (z (r .slot) ⊕ bytesAt l y (memberChip l j m) (r .current m) ⊕ xs) (z (r .slot) ⊕ xs)) xs
-
-  abbrev pub parityAfter : List ℕ
-  parityAfter =
-      z (r .slot)
-      ⊕ cond (mostInPartial l (setBits l r))
-      (gathered l y j (currentOutside l r))
-      (bytesAt l y (parityChip l j) (r .parity) ⊕ gathered l y j (oldInside l r))
 
 -- ---- one stripe
 
@@ -213,6 +185,7 @@ module _ (l : Layout) (w : Within l) (y : ℕ → ℕ → Page) (whole : Whole l
       ∙ gathered-one l y j (othersUnderParity l m r) (underParity l r) m h (under-parity-here l m r t) (λ k b. under-parity-other l m r k)
       ∙ ap (λ p. gathered l y j (othersUnderParity l m r) ⊕ bytesAt l y (memberChip l j m) p) (under-parity-clear l m r t)
 
+  -- the group without a member gives the bytes of that member
   pub rebuilt-inside : (m : ℕ) → m < N → bit r m ≡ true
       → z (r .slot) ⊕ gathered l y j (othersInside l m r) ≡ y (memberChip l j m) (r .current m) .bytes
   rebuilt-inside m h t =
@@ -244,7 +217,8 @@ module _ (l : Layout) (w : Within l) (y : ℕ → ℕ → Page) (whole : Whole l
 
   -- the partial of a write is the data and the other pages of the bitmap
   partial-written : (m : ℕ) (xs : List ℕ) → m < N → length xs ≡ W
-      → partialAfter l y z j r m xs ≡ gathered l y j (othersInside l m r) ⊕ xs
+      → newPartial l y z j m xs r ≡ gathered l y j (othersInside l m r) ⊕ xs
+  unfolding newPartial
   partial-written m xs h long =
       by-test (hasSlot r)
       (λ s. by-test (bit r m)
@@ -254,24 +228,18 @@ module _ (l : Layout) (w : Within l) (y : ℕ → ℕ → Page) (whole : Whole l
       (λ t. rw (s, t, d .partial s, gathered-same l y j (othersInside l m r) (currentInside l r) (λ k b. others-inside-clear l m r t k))))
       (λ s. rw (s, gathered-none l y j (othersInside l m r) (λ k b. no-others m s k)) (sym (xor-nil-l xs)))
 
+  -- after the write both groups are right
   pub write-data : (m p i : ℕ) (xs : List ℕ) → m < N → p ≢ none l → y (memberChip l j m) p .bytes ≡ xs → length xs ≡ W → (z′ : ℕ → List ℕ)
-      → z′ i ≡ partialAfter l y z j r m xs → StripeData l y z′ j (written l m p i r)
+      → z′ i ≡ newPartial l y z j m xs r → StripeData l y z′ j (written l m p i r)
   unfolding written
   write-data m p i xs h page e long z′ q = record {
     partial = λ t. q ∙ partial-written m xs h long ∙ sym (after-write m p i xs h page e);
     parity = d .parity ∙ sym (gathered-same l y j (underParity l r) (underParity l (written l m p i r)) (λ k b. written-under-parity l m p i r k));
   }
 
-  pub new-partial-whole : (m : ℕ) (xs : List ℕ) → m < N → length xs ≡ W → length (partialAfter l y z j r m xs) ≡ W
-  new-partial-whole m xs h long =
-      let others = gathered l y j (othersInside l m r) in
-      ap length (partial-written m xs h long)
-      ∙ length-xors-right others xs (omega (arith, length-gathered l y j whole (othersInside l m r) (numbered-others-inside l w r f m)))
-      ∙ long
-
   -- ---- commit
 
-  pub partial-whole : hasSlot r ≡ true → length (z (r .slot)) ≡ W
+  partial-whole : hasSlot r ≡ true → length (z (r .slot)) ≡ W
   partial-whole s =
       let (m, h, t) = some-bit l r f s in
       ap length (d .partial s)
@@ -279,7 +247,8 @@ module _ (l : Layout) (w : Within l) (y : ℕ → ℕ → Page) (whole : Whole l
       (rw (inside-set l m r t) (sound-member l w r f m h .current-under-bit t .0))
 
   -- both formulas give the XOR of all current pages
-  pub new-parity-is : hasSlot r ≡ true → parityAfter l y z j r ≡ gathered l y j (r .current)
+  new-parity-is : hasSlot r ≡ true → newParity l y z j r ≡ gathered l y j (r .current)
+  unfolding newParity
   new-parity-is s =
       let all = ap (λ x. x ⊕ gathered l y j (currentOutside l r)) (d .partial s) ∙ inside-outside l y j r in
       by-test (mostInPartial l (setBits l r))
@@ -289,14 +258,9 @@ module _ (l : Layout) (w : Within l) (y : ℕ → ℕ → Page) (whole : Whole l
       (omega (arith, partial-whole s, length-gathered l y j whole (oldInside l r) (numbered-old l w r f)))
       ∙ all))
 
-  pub new-parity-whole : hasSlot r ≡ true → length (parityAfter l y z j r) ≡ W
-  new-parity-whole s =
-      let (m, h, t) = some-bit l r f s in
-      ap length (new-parity-is s)
-      ∙ gathered-whole l y j whole (r .current) (λ k b. sound-member l w r f k b .current) m h (sound-member l w r f m h .current-under-bit t .0)
-
+  -- after the commit both groups are right
   pub commit-data : (p : ℕ) → p ≢ none l → hasSlot r ≡ true → (y′ : ℕ → ℕ → Page)
-      → y′ (parityChip l j) p .bytes ≡ parityAfter l y z j r
+      → y′ (parityChip l j) p .bytes ≡ newParity l y z j r
       → ((m : ℕ) → m < N → bytesAt l y′ (memberChip l j m) (r .current m) ≡ bytesAt l y (memberChip l j m) (r .current m))
       → (z′ : ℕ → List ℕ) → StripeData l y′ z′ j (committed l p r)
   unfolding committed

@@ -1,38 +1,19 @@
 -- The place search, case by case: in a block that is begun, in a clean block, or nowhere.
-use Prim.Native.Nat.{ℕ, zero, suc, _≤_, _<_}
-use native.Mathlib.Nat.{le-step, lt-suc-self}
-use native.Mathlib.Decide.{ℕ-discrete}
+use Prim.Native.Nat.{ℕ, _≤_, _<_}
 use native.Mathlib.Omega.{arith}
 use mathlib.Core.Path.{_≡_}
 use mathlib.Core.Logic.{_≢_}
-use mathlib.Core.Bool.{Bool, true, false, not}
+use mathlib.Core.Bool.{true, false, not}
 use borrow.Author.Tests.{le-leb, lt-leb, not-true, not-false}
 use Rattle.units.specs.declared.Found.the-variants.{At, Nothing}
 use Rattle.units.specs.Look.{countBelow, firstBelow, whenFound}
-use Rattle.units.proofs.Looks.{by-test, by-order, by-three, by-found, both, all-at, all-false}
-use Rattle.units.proofs.Looks.{count-start, count-pass, count-fail, count-mono, count-positive, count-found, first-at, first-found, first-nothing}
+use Rattle.units.proofs.Looks.{by-test, by-order, by-found, both, all-at, all-false, first-at, first-found, first-nothing}
 use Rattle.units.proofs.Tests.{and-both}
+use Rattle.units.proofs.Counts.{count-found, count-two}
 use Rattle.layout.specs.Layout.{Layout, pageIn}
 use Rattle.layout.specs.Page.{Page}
 use Rattle.rules.specs.Blocks.{cleanIn, usedIn, cleanBlock, fullBlock, lowestCleanBlock}
 use Rattle.rules.specs.Place.{openBlock, lowestCleanPage, placeOf}
-
--- general: a count of two or more is two different numbers
-two-in-order : (n : ℕ) (f : ℕ → Bool) (i j : ℕ) → i < j → j < n → f i ≡ true → f j ≡ true → 2 ≤ countBelow n f
-two-in-order n f i j h below s t = omega (arith, count-mono (suc j) n f below, count-pass j f t, count-positive j f i h s)
-
-pub count-two : (n : ℕ) (f : ℕ → Bool) (i j : ℕ) → i < n → j < n → i ≢ j → f i ≡ true → f j ≡ true → 2 ≤ countBelow n f
-count-two n f i j h h′ d s t =
-    by-three i j (λ less. two-in-order n f i j less h′ s t) (λ e. absurd (d e)) (λ more. two-in-order n f j i more h t s)
-
-pub count-other : (n : ℕ) (f : ℕ → Bool) (b : ℕ) → 2 ≤ countBelow n f → (i : ℕ) × (i < n) × (i ≢ b) × (f i ≡ true)
-count-other zero f b h = absurd (omega (arith, count-start f))
-count-other (suc n) f b h = by-test (f n)
-    (λ t. elim (ℕ-discrete n b) [
-      | yes e ↦ let (i, low, s) = count-found n f (omega (arith, count-pass n f t)) in (i, le-step low, λ q. omega arith, s)
-      | no d ↦ (n, lt-suc-self n, d, t)
-    ])
-    (λ t. let (i, low, d, s) = count-other n f b (omega (arith, count-fail n f t)) in (i, le-step low, d, s))
 
 module _ (l : Layout) (x : ℕ → Page) where
   open Layout l using (K, B)

@@ -1,24 +1,24 @@
 -- Room: a place, a victim, a free slot and a stripe to commit are there where they are looked for.
-use Prim.Native.Nat.{ℕ, suc, _+_, _-_, _*_, _≤_, _<_}
-use native.Mathlib.Nat.{le-trans, suc-mul}
+use Prim.Native.Nat.{ℕ, _+_, _-_, _*_, _≤_, _<_}
+use native.Mathlib.Nat.{le-trans}
 use native.Mathlib.Omega.{arith}
 use mathlib.Core.Path.{_≡_, refl, sym, ap, _∙_}
 use mathlib.Core.Logic.{_≢_}
-use mathlib.Core.Bool.{Bool, true, false, not, cond}
-use lib.Dec.{eqb, ltb}
-use borrow.Author.Tests.{lt-ltb, le-ltb, ne-eqb, eqb-true, eqb-false, not-true, not-false}
+use mathlib.Core.Bool.{true, false, not, cond}
+use lib.Dec.{eqb}
+use borrow.Author.Tests.{ne-eqb, eqb-true, eqb-false, not-true, not-false}
 use Rattle.units.specs.declared.Found.the-variants.{At, Nothing}
 use Rattle.units.specs.Look.{someBelow, countBelow, firstBelow, whenFound}
-use Rattle.units.proofs.Looks.{by-test, by-order, by-three, by-found, both, not-found, some-at, some-none}
-use Rattle.units.proofs.Looks.{count-pass, count-le, count-mono, count-all, count-found, pigeonhole-into}
-use Rattle.units.proofs.Looks.{first-at, first-found, first-nothing, least-at, least-found, least-nothing}
+use Rattle.units.proofs.Looks.{by-test, by-found, both, not-found, some-at, some-none, first-at, first-found, first-nothing, least-at, least-found, least-nothing}
 use Rattle.units.proofs.Tests.{and-both}
-use Rattle.units.proofs.Units.{apart}
+use Rattle.units.proofs.Units.{apart, one-less}
+use Rattle.units.proofs.Counts.{count-le, count-found, count-two, count-other, count-grows, count-same, all-into, past, past-one, past-fits, past-apart}
 use Rattle.layout.specs.Layout.{Layout, pages, pageIn}
 use Rattle.layout.specs.Page.{Page}
 use Rattle.layout.specs.Record.{Record, noSlot, hasSlot, slotted, slotOf}
 use Rattle.layout.specs.Collection.{Collection}
 use Rattle.layout.proofs.Limits.{Within}
+use Rattle.layout.proofs.Pages.{place-of, page-number}
 use Rattle.rules.specs.Names.{mainNumber, sideNumber, names, named}
 use Rattle.rules.specs.Blocks.{cleanIn, cleanBlock, fullBlock, namedIn, unnamedIn}
 use Rattle.rules.specs.Sound.{collecting}
@@ -27,47 +27,9 @@ use Rattle.rules.specs.Place.{openBlock, placeOf}
 use Rattle.rules.specs.Commit.{cheapest, recordCost}
 use Rattle.rules.specs.Write.{commitOwed, freeSlot, lowestFreeSlot}
 use Rattle.rules.proofs.Statements.{RecordsSound, ChipSound}
-use Rattle.rules.proofs.Names.{place-of, page-number, by-name, named-by, name-tagged, side-slot}
+use Rattle.rules.proofs.Names.{by-name, named-by, name-tagged, side-slot}
 use Rattle.rules.proofs.Kept.{Fillable, CleanBut}
-use Rattle.rules.proofs.Places.{count-two, count-other, clean-at, open-begun, is-open, all-full, place-begun, place-fresh, place-nowhere, by-place}
-
--- general: of those that pass f, no two have the same number of them before
-count-apart : (f : ℕ → Bool) (i j : ℕ) → i < j → f i ≡ true → countBelow i f < countBelow j f
-count-apart f i j h t = omega (arith, count-mono (suc i) j f h, count-pass i f t)
-
-count-one : (f : ℕ → Bool) (i j : ℕ) → f i ≡ true → f j ≡ true → countBelow i f ≡ countBelow j f → i ≡ j
-count-one f i j s t e = by-three i j
-    (λ h. absurd (omega (arith, count-apart f i j h s)))
-    (λ q. q)
-    (λ h. absurd (omega (arith, count-apart f j i h t)))
-
--- general: n numbers taken one to one to those below m that pass s
-all-into : (n m : ℕ) (s : ℕ → Bool) (f : ℕ → ℕ) → ((i : ℕ) → i < n → (f i < m) × (s (f i) ≡ true))
-    → ((i j : ℕ) → i < n → j < n → f i ≡ f j → i ≡ j) → n ≤ countBelow m s
-all-into n m s f to one =
-    omega (arith, count-all n (λ i. true) (λ i h. refl), pigeonhole-into n m (λ i. true) s f (λ i h _. to i h) (λ i j h h′ _ _. one i j h h′))
-
--- general: the numbers but the k that begin with a
-past : ℕ → ℕ → ℕ → ℕ
-past a k n = cond (ltb n a) n (n + k)
-
-by-past {ℓ} : {P : Type ℓ} (a k n : ℕ) → (n < a → past a k n ≡ n → P) → (a ≤ n → past a k n ≡ n + k → P) → P
-unfolding past
-by-past a k n before behind = by-order n a (λ h. before h (rw (lt-ltb n a h))) (λ h. behind h (rw (le-ltb n a h)))
-
-past-one : (a k n m : ℕ) → past a k n ≡ past a k m → n ≡ m
-past-one a k n m e = by-past a k n
-    (λ h q. by-past a k m (λ h′ q′. omega arith) (λ h′ q′. omega arith))
-    (λ h q. by-past a k m (λ h′ q′. omega arith) (λ h′ q′. omega arith))
-
-past-fits : (a k n m : ℕ) → a + k ≤ m → n + k < m → past a k n < m
-past-fits a k n m h below = by-past a k n (λ low q. omega arith) (λ high q. omega arith)
-
-past-apart : (a k n i : ℕ) → i < k → past a k n ≢ a + i
-past-apart a k n i h e = by-past a k n (λ low q. omega arith) (λ high q. omega arith)
-
-one-less : (b k : ℕ) → 1 ≤ b → (b - 1) * k + k ≡ b * k
-one-less b k h = let e : suc (b - 1) ≡ b = omega arith in sym (suc-mul (b - 1) k) ∙ ap (λ (n : ℕ). n * k) e
+use Rattle.rules.proofs.Places.{clean-at, open-begun, is-open, all-full, place-begun, place-fresh, place-nowhere, by-place}
 
 module _ (l : Layout) where
   -- where a place is, in a chip of pages x
@@ -113,6 +75,7 @@ module _ (l : Layout) (w : Within l) where
           spare = record { block = d; fits = fits; other = other; is-clean = s };
         }
 
+    -- a place that is found can be programmed, and leaves a clean block
     pub place-at : (p : ℕ) → placeOf l x ≡ At p → PlaceAt l x p
     place-at p e =
         by-place l x
@@ -169,20 +132,17 @@ module _ (l : Layout) (w : Within l) where
     holder-fits p h =
         by-holder p h
         (λ low _ e. omega arith)
-        (λ low _ t e. omega (arith, count-apart (slotted r) (x p .stripe) S low t, g .few))
-
-    same-number : (n : ℕ → ℕ) (i j p q : ℕ) → i ≡ j → n i ≡ p → n j ≡ q → p ≡ q
-    same-number n i j p q e u v = sym u ∙ ap n e ∙ v
+        (λ low _ t e. omega (arith, count-grows (slotted r) (x p .stripe) S low t, g .few))
 
     holder-one : (p q : ℕ) → Held p → Held q → holder p ≡ holder q → p ≡ q
     holder-one p q h h′ e =
         by-holder p h
         (λ low u a. by-holder q h′
-        (λ _ v a′. same-number mainOf (x p .stripe) (x q .stripe) p q (sym a ∙ e ∙ a′) u v)
+        (λ _ v a′. sym u ∙ ap mainOf (sym a ∙ e ∙ a′) ∙ v)
         (λ _ v s a′. absurd (omega arith)))
         (λ _ u t a. by-holder q h′
         (λ low v a′. absurd (omega arith))
-        (λ _ v s a′. same-number sideOf (x p .stripe) (x q .stripe) p q (count-one (slotted r) (x p .stripe) (x q .stripe) t s (omega arith)) u v))
+        (λ _ v s a′. sym u ∙ ap sideOf (count-same (slotted r) (x p .stripe) (x q .stripe) t s (omega arith)) ∙ v))
 
     -- with all pages outside block b named there would be as many numbers as pages
     module _ (b : ℕ) (fits : b < B) (h : (d i : ℕ) → d < B → d ≢ b → i < K → namedIn l r c d i ≡ true) where
@@ -245,6 +205,7 @@ module _ (l : Layout) (w : Within l) where
       (λ i low. (u i low .0, rw (ne-eqb (r (user r i) .slot) noSlot (λ e. omega (arith, u i low .1, w .partials-high)))))
       (λ i j low low′ e. sym (u i low .1) ∙ ap (λ (k : ℕ). r k .slot) e ∙ u j low′ .1)
 
+  -- one of the M + 1 slots is free
   pub free-slot : (r : ℕ → Record) (co : Collection) → RecordsSound l r co
       → (i : ℕ) × (lowestFreeSlot l r ≡ At i) × (i < M + 1) × ((j : ℕ) → j < S → r j .slot ≢ i)
   unfolding lowestFreeSlot
@@ -256,6 +217,7 @@ module _ (l : Layout) (w : Within l) where
       (i, e, low, λ j fits. eqb-false (r j .slot) i (unused j fits)))
       (λ e. absurd (omega (arith, g .few, all-used r (first-nothing (M + 1) (freeSlot l r) e))))
 
+  -- where a commit is owed there is a stripe to commit, and it is another one
   pub stripe-to-commit : (r : ℕ → Record) (j : ℕ) → commitOwed l r j ≡ true
       → (k : ℕ) × (cheapest l r ≡ At k) × (k < S) × (slotted r k ≡ true) × (k ≢ j)
   unfolding commitOwed cheapest

@@ -1,15 +1,16 @@
--- "Sound images" as plain statements, in the order of document 01.
+-- "Sound images" as plain statements, in the order of document 01, and what follows of them at once.
 use Prim.Native.Nat.{ℕ, _+_, _^_, _≤_, _<_}
 use native.Mathlib.Omega.{arith}
-use mathlib.Core.Path.{_≡_}
+use mathlib.Core.Path.{_≡_, refl}
 use mathlib.Core.Logic.{_≢_}
-use mathlib.Core.Bool.{true, false}
+use mathlib.Core.Bool.{true, false, and-false}
 use lib.ListN.{length}
+use borrow.Author.Tests.{ne-eqb}
 use Rattle.units.specs.Look.{countBelow}
 use Rattle.layout.specs.Layout.{Layout, noChip, none, pages, pageIn}
 use Rattle.layout.specs.Page.{Page, pageAt}
 use Rattle.layout.specs.Record.{Record, bit, noSlot, slotted, recordAt}
-use Rattle.layout.specs.Collection.{Collection, collectionAt}
+use Rattle.layout.specs.Collection.{Collection, collectionAt, idle}
 use Rattle.layout.specs.Images.{Images, chipsLength, recordsLength, slotsLength}
 use Rattle.layout.proofs.Limits.{Within}
 use Rattle.rules.specs.Names.{mainNumber, sideNumber, kindOn, memberTag, named}
@@ -100,7 +101,39 @@ module _ (l : Layout) where
   abbrev pub Sound : Images → Type 0
   Sound s = SoundBut noChip s
 
+  -- ---- what follows at once
+
   -- no chip is the one that stands for none
   pub sound-chip : Usable → (s : Images) → Sound s → (c : ℕ) → c < N + 1
       → ChipSound (recordAt l (s .records)) (pageAt l (s .chips) c) c (collectionAt l (s .records))
   sound-chip u s f c chip = f .chip c chip (λ e. absurd (omega (arith, u .within .members-high)))
+
+  -- what is sound on every chip is so on every chip but one
+  pub sound-but : Within l → (s : Images) (lost : ℕ) → Sound s → SoundBut lost s
+  sound-but w s lost h = record {
+    chips = h .chips;
+    records = h .records;
+    slots = h .slots;
+    stripes = h .stripes;
+    chip = λ c low d. h .chip c low (omega (arith, w .members-high));
+  }
+
+  -- a record is sound about every member that there is
+  pub sound-member : Within l → (r : Record) → RecordSound r → (m : ℕ) → m < N → MemberSound r m
+  sound-member w r f m h = f .member m (omega (arith, w .members-high))
+
+  -- the collection record with no collection under way
+  pub idle-sound : CollectionSound idle
+  idle-sound = record {
+    rest = refl;
+    at-rest = λ z. (refl, refl, refl);
+    phases = omega arith;
+    chip = λ d. absurd (d refl);
+    victim = λ d. absurd (d refl);
+    destination = λ d. absurd (d refl);
+    apart = λ d. absurd (d refl);
+  }
+
+-- a chip is not the one that is collected on
+pub not-collecting : (co : Collection) (c : ℕ) → co .chip ≢ c → collecting co c ≡ false
+not-collecting co c d = rw (ne-eqb (co .chip) c d, and-false)

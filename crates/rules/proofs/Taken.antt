@@ -1,11 +1,11 @@
 -- One chip taken: whatever bytes stand in its stretch, calls that name it store nothing, and reads that name it look elsewhere.
-use Prim.Native.Nat.{ℕ, suc, _+_, _*_, _≤_, _<_}
+use Prim.Native.Nat.{ℕ, _+_, _*_, _≤_, _<_}
 use native.Mathlib.Nat.{mul-assoc}
 use native.Mathlib.Omega.{arith}
-use mathlib.Core.Path.{_≡_, refl, sym, ap, _∙_}
+use mathlib.Core.Path.{_≡_, refl, ap, _∙_}
 use mathlib.Core.Logic.{_≢_}
 use mathlib.Core.Bool.{true}
-use mathlib.Core.List.{List, []}
+use mathlib.Core.List.{List}
 use lib.ListN.{length}
 use lib.Dec.{eqb}
 use borrow.Author.Tests.{le-leb}
@@ -14,30 +14,23 @@ use Rattle.units.proofs.Units.{unit-other, length-unitPut}
 use Rattle.units.proofs.Tests.{or-right}
 use Rattle.layout.specs.Layout.{Layout, noChip, pages, pageBytes, chipBytes}
 use Rattle.layout.specs.Page.{Page, pageOf, pageAt}
-use Rattle.layout.specs.Record.{recordAt}
-use Rattle.layout.specs.Collection.{collectionAt}
 use Rattle.layout.specs.Images.{Images, chipsLength}
-use Rattle.stores.specs.declared.Counts.{Counts}
-use Rattle.stores.specs.Steps.{made, applyAll}
 use Rattle.stores.proofs.Prefixes.{every-nil}
 use Rattle.rules.specs.declared.Check.{Check}
 use Rattle.rules.specs.declared.Check.the-variants.{Passed, Failed}
-use Rattle.rules.specs.declared.Reading.the-variants.{Done as ReadDone}
-use Rattle.rules.specs.Refusals.{lostNamed, openCheck, writeCheck, commitCheck, collectCheck}
+use Rattle.rules.specs.Refusals.{lostNamed, openCheck}
 use Rattle.rules.specs.Open.{openSteps}
-use Rattle.rules.specs.Read.{fetch}
-use Rattle.rules.specs.Calls.{ReadOutcome, run, outcome, openCall, readCall, writeCall, commitCall, collectCall}
-use Rattle.rules.specs.Book.{Call, open-call, read-call, write-call, commit-call, collect-call, lostChip, Book, booked}
+use Rattle.rules.specs.Calls.{run, outcome, openCall, writeCall, commitCall, collectCall}
+use Rattle.rules.specs.Book.{Call, open-call, read-call, write-call, commit-call, collect-call, lostChip, booked}
 use Rattle.rules.specs.Demand.{World, called, chipTaken, ReadsTheBook}
-use Rattle.rules.proofs.Statements.{Usable, ChipSound, SoundBut, Sound}
-use Rattle.rules.proofs.Checks.{sound-but}
+use Rattle.rules.proofs.Statements.{Usable, SoundBut, sound-but}
 use Rattle.rules.proofs.Accepted.{lost-refused-write, lost-refused-commit, lost-refused-collect}
 use Rattle.rules.proofs.Rebuild.{fetch-elsewhere}
 use Rattle.rules.proofs.Lists.{open-lost}
 use Rattle.rules.proofs.Invariant.{Inv, reads-book}
 
 module _ (l : Layout) where
-  open Layout l using (N, W, S)
+  open Layout l using (N)
 
   -- t is s but for chip c
   pub record Taken (c : ℕ) (s t : Images) : Type 0 where
@@ -74,7 +67,7 @@ module _ (l : Layout) where
   }
 
   -- soundness asks nothing of the chip that is named
-  pub taken-sound : (c : ℕ) (s t : Images) → SoundBut l c s → Taken c s t → SoundBut l c t
+  taken-sound : (c : ℕ) (s t : Images) → SoundBut l c s → Taken c s t → SoundBut l c t
   taken-sound c s t f k = record {
     chips = k .chips;
     records = ap length (k .records) ∙ f .records;
@@ -87,7 +80,7 @@ module _ (l : Layout) where
     is-named : lostNamed l c ≡ true
     is-named = or-right (eqb c noChip) (le-leb c N chip)
 
-    pub not-none : c ≢ noChip
+    not-none : c ≢ noChip
     not-none = omega (arith, u .within .members-high)
 
     -- the read of each page, with that chip named
@@ -102,6 +95,7 @@ module _ (l : Layout) where
     open-stays t a Passed = rw (open-lost l t c not-none) (every-nil l (λ v. v ≡ t) t refl a)
     open-stays t a (Failed r) = refl
 
+    -- of every kind of call
     pub call-stays : (call : Call) → lostChip call ≡ c → (x : World) → (called l call x .images ≡ x .images) × (called l call x .book ≡ x .book)
     unfolding called booked openCall writeCall commitCall collectCall
     call-stays (open-call lost a) e x = (rw e (open-stays (x .images) a (openCheck l (x .images) c)), refl)

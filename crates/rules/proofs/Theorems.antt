@@ -1,16 +1,16 @@
 -- The theorems of the argument, for every geometry: what holds of every call by the definitions of document 01 alone.
 use Prim.Native.Nat.{ℕ, _+_, _*_, _≤_, _<_}
 use native.Mathlib.Omega.{arith}
-use mathlib.Core.Path.{_≡_, refl, sym, ap, _∙_}
+use mathlib.Core.Path.{_≡_, refl, ap}
 use mathlib.Core.Logic.{_≢_, _↔_}
-use mathlib.Core.Bool.{true, false}
-use mathlib.Core.List.{List, []}
+use mathlib.Core.Bool.{true}
+use mathlib.Core.List.{List}
 use lib.ListN.{length}
 use lib.Seq.{take-all}
 use lib.Dec.{lit≤, eqb}
 use borrow.Author.Tests.{eqb-true, eqb-false, ltb-true, ltb-false}
 use Rattle.units.specs.declared.Found.the-variants.{At, Nothing}
-use Rattle.units.proofs.Looks.{by-test, by-order}
+use Rattle.units.proofs.Looks.{by-test}
 use Rattle.layout.specs.declared.Geometry.{Geometry}
 use Rattle.layout.specs.Layout.{Layout, layoutOf, noChip, limits}
 use Rattle.layout.specs.Page.{Page, pageAt}
@@ -19,7 +19,7 @@ use Rattle.layout.specs.Collection.{Collection, collectionAt}
 use Rattle.layout.specs.Images.{Images, lengths}
 use Rattle.layout.proofs.Limits.{Within, within}
 use Rattle.stores.specs.declared.Counts.{Counts}
-use Rattle.stores.specs.Steps.{Step, made, isCut, applyAll}
+use Rattle.stores.specs.Steps.{made, isCut, applyAll}
 use Rattle.stores.proofs.Prefixes.{Every, every-nil}
 use Rattle.rules.specs.declared.Check.{Check}
 use Rattle.rules.specs.declared.Check.the-variants.{Passed, Failed}
@@ -35,13 +35,10 @@ use Rattle.rules.specs.Write.{commitOwed, lowestFreeSlot, writeSteps}
 use Rattle.rules.specs.Read.{fetch}
 use Rattle.rules.specs.Calls.{ReadOutcome, run, outcome, readCall, writeCall}
 use Rattle.rules.specs.Book.{Verdict, done, cut, refused, verdict}
-use Rattle.rules.proofs.Fresh.{formatted}
-use Rattle.rules.proofs.FirstWrite.{lengths-are}
+use Rattle.rules.proofs.Fresh.{formatted, rank, lengths-are}
 use Rattle.rules.proofs.Statements.{Usable, RecordsSound, ChipSound, SoundBut, Sound, sound-chip}
-use Rattle.rules.proofs.Checks.{records-sound, records-pass, chip-sound, chip-pass, images-sound, lengths-pass, records-check-pass, spares-check-pass, fresh-sound}
+use Rattle.rules.proofs.Checks.{images-sound, lengths-pass, records-check-pass, spares-check-pass}
 use Rattle.rules.proofs.Accepted.{open-accepted, read-passes, WriteAccepted, write-accepted, write-passes, commit-accepted, collect-accepted}
-use Rattle.rules.proofs.Kept.{CopiesOf}
-use Rattle.rules.proofs.Carries.{Carries, Wrote}
 use Rattle.rules.proofs.Room.{victim-found, free-slot, stripe-to-commit}
 use Rattle.rules.proofs.Collecting.{still, collect-leads}
 use Rattle.rules.proofs.Lists.{open-lost, open-every, collect-every, commit-every, write-ends, write-every}
@@ -49,12 +46,9 @@ use Rattle.rules.proofs.Invariant.{no-copies}
 use Rattle.rules.proofs.CutRule.{CutRules, cut-rules}
 use Rattle.rules.specs.Demand.{Demand3}
 use Rattle.rules.proofs.Demand.{demand-3}
-
--- what tells verdicts apart
-abbrev rank : Verdict → ℕ
-rank done = 0
-rank cut = 1
-rank refused = 2
+use Rattle.rules.proofs.RecordChecks.{records-sound, records-pass}
+use Rattle.rules.proofs.ChipChecks.{chip-sound, chip-pass}
+use Rattle.rules.proofs.FreshSound.{fresh-sound}
 
 module _ (l : Layout) where
   open Layout l using (N, W, S)

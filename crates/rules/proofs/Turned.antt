@@ -5,8 +5,7 @@ use mathlib.Core.Bool.{true, false}
 use mathlib.Core.List.{List}
 use Rattle.layout.specs.Layout.{Layout, limits}
 use Rattle.layout.specs.Images.{Images, lengths}
-use Rattle.layout.proofs.Rows.{geometry}
-use Rattle.layout.proofs.Rows.{accepted as within-limits}
+use Rattle.layout.proofs.Rows.{geometry, accepted as within-limits}
 use Rattle.rules.specs.declared.Refusal.{Refusal}
 use Rattle.rules.specs.declared.Refusal.the-variants.{Geometry}
 use Rattle.rules.specs.declared.Check.the-variants.{Passed}

@@ -11,26 +11,31 @@ use lib.ListN.{length}
 use borrow.Author.Tests.{ne-eqb}
 use Rattle.units.specs.Look.{countBelow}
 use Rattle.units.specs.Update.{at}
-use Rattle.units.proofs.Looks.{by-test, count-cong, count-flip}
+use Rattle.units.proofs.Looks.{by-test}
 use Rattle.units.proofs.Updates.{at-same, at-other}
+use Rattle.units.proofs.Counts.{count-cong, count-flip}
 use Rattle.layout.specs.Layout.{Layout, noChip, none}
 use Rattle.layout.specs.Rotation.{memberChip, memberOf, stripeOf}
 use Rattle.layout.specs.Page.{pageAt}
 use Rattle.layout.specs.Record.{Record, bit, noSlot, hasSlot, slotted, recordAt}
 use Rattle.layout.specs.Collection.{collectionAt}
 use Rattle.layout.specs.Images.{Images, slotAt}
+use Rattle.layout.proofs.Records.{SixMembers, six-members}
+use Rattle.layout.proofs.Pages.{page-number}
+use Rattle.layout.proofs.Rotations.{stripe-fits, member-fits}
 use Rattle.stores.specs.Store.{stripe, apply}
 use Rattle.rules.specs.Write.{newPartial, written}
-use Rattle.rules.specs.Read.{fetch}
+use Rattle.rules.specs.Read.{Fetched, fetch}
 use Rattle.rules.proofs.Statements.{Usable, RecordSound, Sound}
-use Rattle.rules.proofs.Names.{page-number, main-member, side-member, unnamed-at}
+use Rattle.rules.proofs.Names.{main-member, side-member, unnamed-at}
 use Rattle.rules.proofs.Contents.{underParity, StripeData, Data, pages-whole}
-use Rattle.rules.proofs.Parity.{partialAfter, written-current, written-current-other, write-data}
-use Rattle.rules.proofs.Rebuild.{fetch-direct, stripe-fits, member-fits}
-use Rattle.rules.proofs.Kept.{Kept, sound-stripe}
+use Rattle.rules.proofs.Parity.{written-current, written-current-other, write-data}
+use Rattle.rules.proofs.Rebuild.{fetch-direct}
+use Rattle.rules.proofs.Kept.{Kept}
 use Rattle.rules.proofs.Carries.{Wrote, kept-carries}
-use Rattle.rules.proofs.Entries.{SixMembers, six-members, written-six, written-sound, written-main, written-side}
+use Rattle.rules.proofs.Entries.{written-six, written-sound, written-main, written-side}
 use Rattle.rules.proofs.Last.{NewPage, main-tagged, side-tagged, stored-chips, stored-here, stored-other, stored-copies, stored-data, stored-read}
+use Rattle.rules.proofs.Storing.{sound-stripe}
 
 module _ (l : Layout) (u : Usable l) where
   open Layout l using (N, W, S, M)
@@ -39,9 +44,9 @@ module _ (l : Layout) (u : Usable l) where
   module _ (s t : Images) (k : Kept l s t) (same : t .records ≡ s .records) (chips : t .chips ≡ s .chips)
       (rest : collectionAt l (t .records) .phase ≡ 0)
       (page p i : ℕ) (xs : List ℕ) (inside : page < N * S) (whole : length xs ≡ W)
-      (new : NewPage l u t (memberChip l (stripeOf l page) (memberOf l page)) (stripeOf l page) p xs)
+      (new : NewPage l t (memberChip l (stripeOf l page) (memberOf l page)) (stripeOf l page) p xs)
       (place : i < M + 1) (free : (j : ℕ) → j < S → recordAt l (t .records) j .slot ≢ i)
-      (partial : slotAt l (t .slots) i ≡ newPartial l s (stripeOf l page) (memberOf l page) xs (recordAt l (s .records) (stripeOf l page)))
+      (partial : slotAt l (t .slots) i ≡ newPartial l (pageAt l (s .chips)) (slotAt l (s .slots)) (stripeOf l page) (memberOf l page) xs (recordAt l (s .records) (stripeOf l page)))
       (few : hasSlot (recordAt l (t .records) (stripeOf l page)) ≡ false → countBelow S (slotted (recordAt l (t .records))) < M) where
     abbrev j : ℕ
     j = stripeOf l page
@@ -119,7 +124,8 @@ module _ (l : Layout) (u : Usable l) where
         still-few (written-main l y j r main side m p i (new .tagged)) (written-side l y j r main side m p i)
 
     -- the slot holds what a write on t would put there
-    new-partial : newPartial l s j m xs (recordAt l (s .records) j) ≡ partialAfter l (pageAt l (t .chips)) (slotAt l (t .slots)) j r m xs
+    new-partial : newPartial l (pageAt l (s .chips)) (slotAt l (s .slots)) j m xs (recordAt l (s .records) j)
+        ≡ newPartial l (pageAt l (t .chips)) (slotAt l (t .slots)) j m xs r
     unfolding newPartial
     new-partial =
         let same-record : recordAt l (s .records) j ≡ r = ap (λ (x : List ℕ). recordAt l x j) (sym same) in
@@ -136,7 +142,7 @@ module _ (l : Layout) (u : Usable l) where
 
     write-here : fetch l writtenImages noChip page .bytes ≡ xs
     write-here =
-        fetch-direct l (u .within) writtenImages page (rw new-current page-there)
+        ap (λ (x : Fetched). x .bytes) (fetch-direct l (u .within) writtenImages page (rw new-current page-there))
         ∙ rw (new-current, stored-chips l u t (k .sound) j fits r′ sound′ six) (new .bytes)
 
     -- another page is of another stripe, or another member
@@ -151,6 +157,7 @@ module _ (l : Layout) (u : Usable l) where
       | no other ↦ ap (λ (x : Record). x .current (memberOf l q)) (stored-other l u t (k .sound) j fits r′ sound′ six (stripeOf l q) other)
     ]
 
+    -- the write is made, and nothing else is lost
     pub write-wrote : Wrote l page xs s writtenImages
     write-wrote =
         let kept = kept-carries l u s t k in

@@ -1,38 +1,37 @@
 -- A write as a whole: every cut of it keeps what the images hold, and at its end the page holds its data and every other page what it held.
-use Prim.Native.Nat.{ℕ, suc, _+_, _*_, _≤_, _<_}
+use Prim.Native.Nat.{ℕ, _+_, _*_, _<_}
 use native.Mathlib.Omega.{arith}
 use mathlib.Core.Path.{_≡_, refl, sym, ap, _∙_}
 use mathlib.Core.Logic.{_≢_}
-use mathlib.Core.Bool.{Bool, true, false, not}
+use mathlib.Core.Bool.{true, false, not}
 use mathlib.Core.List.{List, [], _∷_}
 use lib.ListN.{length}
 use lib.Dec.{eqb}
 use borrow.Author.Tests.{eqb-true, eqb-false}
 use Rattle.units.specs.declared.Found.the-variants.{At}
 use Rattle.units.specs.Look.{countBelow, whenFound}
-use Rattle.units.specs.Update.{at}
-use Rattle.units.proofs.Looks.{by-test, both}
-use Rattle.units.proofs.Tests.{and-both, not-true}
+use Rattle.units.proofs.Looks.{by-test}
+use Rattle.units.proofs.Tests.{and-both}
 use Rattle.units.proofs.Updates.{at-same}
-use Rattle.layout.specs.Layout.{Layout, none}
+use Rattle.layout.specs.Layout.{Layout}
 use Rattle.layout.specs.Rotation.{memberChip, memberOf, stripeOf}
-use Rattle.layout.specs.Page.{Page, pageAt}
-use Rattle.layout.specs.Record.{Record, noSlot, hasSlot, slotted, recordAt}
-use Rattle.layout.specs.Collection.{Collection, collectionAt}
+use Rattle.layout.specs.Page.{pageAt}
+use Rattle.layout.specs.Record.{Record, hasSlot, slotted, recordAt}
+use Rattle.layout.specs.Collection.{collectionAt}
 use Rattle.layout.specs.Images.{Images, slotAt}
 use Rattle.layout.proofs.Codec.{PageFits}
-use Rattle.layout.proofs.Rotations.{member-chip-fits}
+use Rattle.layout.proofs.Rotations.{member-chip-fits, stripe-fits, member-fits}
+use Rattle.layout.proofs.Records.{same-slotted}
 use Rattle.stores.specs.Store.{program, slot, stripe, apply}
-use Rattle.stores.specs.Steps.{Step, plain, applyAll, andThen}
-use Rattle.stores.proofs.Prefixes.{Leads, leads-nil, leads-one, leads-weaken, Closes, closes-two, closes-then, closes-leads, closes-weaken}
+use Rattle.stores.specs.Steps.{plain}
+use Rattle.stores.proofs.Prefixes.{Leads, leads-nil, leads-one, Closes, closes-two, closes-then, closes-leads, closes-weaken}
 use Rattle.rules.specs.Write.{commitOwed, owedSteps, dataPage, lowestFreeSlot, newPartial, newPartialReads, written, slotSteps, writeAt, writeMember, writeSteps}
-use Rattle.rules.specs.Commit.{cheapest, commitSteps}
+use Rattle.rules.specs.Commit.{commitSteps}
 use Rattle.rules.specs.Place.{placed}
 use Rattle.rules.proofs.Statements.{Usable, Sound}
 use Rattle.rules.proofs.Names.{kind-member, tag-member}
 use Rattle.rules.proofs.Fresh.{none-fits}
-use Rattle.rules.proofs.Rebuild.{stripe-fits, member-fits}
-use Rattle.rules.proofs.Kept.{Kept, kept-refl, kept-trans, kept-slot, slot-view}
+use Rattle.rules.proofs.Kept.{Kept, kept-refl, kept-trans}
 use Rattle.rules.proofs.Carries.{Carries, Wrote, carries-refl, carries-trans, carries-wrote, kept-carries}
 use Rattle.rules.proofs.Room.{PlaceAt, free-slot, stripe-to-commit}
 use Rattle.rules.proofs.Filling.{fill-kept, fill-new}
@@ -41,6 +40,7 @@ use Rattle.rules.proofs.Writes.{write-wrote}
 use Rattle.rules.proofs.Entries.{new-partial-length}
 use Rattle.rules.proofs.Collecting.{placed-closes}
 use Rattle.rules.proofs.Committing.{Committed, kept-count, commit-closes}
+use Rattle.rules.proofs.Storing.{kept-slot, slot-view}
 
 module _ (l : Layout) where
   open Layout l using (S, M)
@@ -79,7 +79,7 @@ module _ (l : Layout) (u : Usable l) (page : ℕ) (inside : page < l .N * l .S) 
   kept-wrote s t v k = carries-wrote l page xs s t v (kept-carries l u s t k)
 
   -- the page stands at p of images t: the slot and the record
-  module _ (t : Images) (g : Sound l t) (rest : collectionAt l (t .records) .phase ≡ 0) (left : SlotLeft l j t) (p : ℕ) (new : NewPage l u t c j p xs) where
+  module _ (t : Images) (g : Sound l t) (rest : collectionAt l (t .records) .phase ≡ 0) (left : SlotLeft l j t) (p : ℕ) (new : NewPage l t c j p xs) where
     abbrev r : ℕ → Record
     r = recordAt l (t .records)
 
@@ -87,7 +87,7 @@ module _ (l : Layout) (u : Usable l) (page : ℕ) (inside : page < l .N * l .S) 
     slot-found = free-slot l (u .within) r (collectionAt l (t .records)) (g .stripes)
 
     abbrev partial : List ℕ
-    partial = newPartial l t j m xs (r j)
+    partial = newPartial l (pageAt l (t .chips)) (slotAt l (t .slots)) j m xs (r j)
 
     partial-length : length partial ≡ W
     partial-length = new-partial-length l (u .within) t j m xs g stripe-inside member-inside whole
@@ -120,7 +120,7 @@ module _ (l : Layout) (u : Usable l) (page : ℕ) (inside : page < l .N * l .S) 
   -- a slot that is left stays so while nothing changes but places
   kept-left : (s t : Images) → Kept l s t → SlotLeft l j s → SlotLeft l j t
   kept-left s t k left e =
-      omega (arith, kept-count l s t k, left (sym (ap (λ (i : ℕ). not (eqb i noSlot)) (k .slot j stripe-inside)) ∙ e))
+      omega (arith, kept-count l s t k, left (sym (same-slotted (recordAt l (s .records) j) (recordAt l (t .records) j) (k .slot j stripe-inside)) ∙ e))
 
   -- at a place p of images t: the page, then the slot and the record
   module _ (t : Images) (g : Sound l t) (rest : collectionAt l (t .records) .phase ≡ 0) (left : SlotLeft l j t) (p : ℕ) (o : PlaceAt l (pageAt l (t .chips) c) p) where
@@ -131,11 +131,11 @@ module _ (l : Layout) (u : Usable l) (page : ℕ) (inside : page < l .N * l .S) 
     t₁ = apply l (program c p (dataPage l j m xs)) t
 
     first : Kept l t t₁
-    first = fill-kept l u t g rest c chip p o j (dataPage l j m xs) page-fits (omega arith)
+    first = fill-kept l u t g rest c chip p o (dataPage l j m xs) page-fits (omega arith)
 
-    new-page : NewPage l u t₁ c j p xs
+    new-page : NewPage l t₁ c j p xs
     new-page =
-        fill-new l u t g rest c chip p o j (dataPage l j m xs) page-fits (omega arith) refl (sym (kind-member l j m)) (sym (tag-member l j m))
+        fill-new l u t g rest c chip p o (dataPage l j m xs) page-fits (omega arith) j refl (sym (kind-member l j m)) (sym (tag-member l j m))
 
     same-phase : collectionAt l (t₁ .records) .phase ≡ 0
     unfolding apply
@@ -182,6 +182,7 @@ module _ (l : Layout) (u : Usable l) (page : ℕ) (inside : page < l .N * l .S) 
         (λ t h. record { rest = h .rest; left = λ none-yet. omega (arith, h .fewer, owed-full e) })))
         (λ e. rw e (leads-nil l (Carries l) (carries-trans l) (Ready l j) s (carries-refl l s f) (record { rest = rest; left = not-owed e })))
 
+    -- a write from its first store to its last, with the commit and the collection that it may need
     pub write-closes : Closes l (Carries l) (Wrote l page xs) (writeSteps l page xs s) s
     unfolding writeSteps writeMember
     write-closes =

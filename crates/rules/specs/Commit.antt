@@ -47,13 +47,13 @@ module _ (l : Layout) where
   unfoldable pub oldInside : Record → ℕ → ℕ
   oldInside r m = cond (bit r m) (r .old m) (none l)
 
-  -- "parity is partial ⊕ pages not in the bitmap; else partial ⊕ old parity ⊕ old pages of the bitmap"
-  unfoldable pub newParity : Images → ℕ → Record → List ℕ
-  newParity s j r =
-      slotAt l (s .slots) (r .slot)
+  -- with the pages y of each chip and the slots z: "parity is partial ⊕ pages not in the bitmap; else partial ⊕ old parity ⊕ old pages of the bitmap"
+  unfoldable pub newParity : (ℕ → ℕ → Page) → (ℕ → List ℕ) → ℕ → Record → List ℕ
+  newParity y z j r =
+      z (r .slot)
       ⊕ cond (mostInPartial (setBits r))
-      (gathered l (pageAt l (s .chips)) j (currentOutside r))
-      (bytesAt l (pageAt l (s .chips)) (parityChip l j) (r .parity) ⊕ gathered l (pageAt l (s .chips)) j (oldInside r))
+      (gathered l y j (currentOutside r))
+      (bytesAt l y (parityChip l j) (r .parity) ⊕ gathered l y j (oldInside r))
 
   -- the pages read for it
   unfoldable pub newParityReads : Record → ℕ
@@ -74,7 +74,12 @@ module _ (l : Layout) where
   -- the two stores of a commit of stripe j at page p, from its record r
   abbrev pub commitStores : ℕ → ℕ → Images → Record → List Step
   commitStores j p s r =
-      record { reads = newParityReads r; store = program (parityChip l j) p (parityPage j (newParity s j r)) }
+      record {
+        reads = newParityReads r;
+        store =
+            program (parityChip l j) p
+            (parityPage j (newParity (pageAt l (s .chips)) (slotAt l (s .slots)) j r));
+      }
       ∷ plain (stripe j (committed p r))
       ∷ []
 

@@ -1,4 +1,4 @@
--- Document 01, "Read".
+-- Document 01, "Read". y gives the pages of each chip, z the slots.
 use Prim.Native.Nat.{ℕ, _+_}
 use mathlib.Core.Bool.{cond, _&&_, not}
 use mathlib.Core.List.{List}
@@ -7,7 +7,7 @@ use lib.Dec.{eqb}
 use Rattle.units.specs.Xor.{_⊕_}
 use Rattle.layout.specs.Layout.{Layout, none, isNone}
 use Rattle.layout.specs.Rotation.{parityChip, memberChip, memberOf, stripeOf}
-use Rattle.layout.specs.Page.{pageAt}
+use Rattle.layout.specs.Page.{Page, pageAt}
 use Rattle.layout.specs.Record.{Record, recordAt, bit}
 use Rattle.layout.specs.Images.{Images, slotAt}
 use Rattle.rules.specs.Gather.{bytesAt, readsAt, gathered, gatheredReads}
@@ -29,41 +29,41 @@ module _ (l : Layout) where
   othersUnderParity m r i = cond (bit r i) (r .old i) (cond (eqb i m) (none l) (r .current i))
 
   -- "bit set, slot ⊕ the other pages of the bitmap"
-  unfoldable pub throughPartial : Images → ℕ → ℕ → Record → Fetched
-  throughPartial s j m r =
+  unfoldable pub throughPartial : (ℕ → ℕ → Page) → (ℕ → List ℕ) → ℕ → ℕ → Record → Fetched
+  throughPartial y z j m r =
       record {
-        bytes = slotAt l (s .slots) (r .slot) ⊕ gathered l (pageAt l (s .chips)) j (othersInside m r);
+        bytes = z (r .slot) ⊕ gathered l y j (othersInside m r);
         reads = gatheredReads l (othersInside m r);
       }
 
   -- "bit clear, parity page ⊕ old page of each set member ⊕ current page of each other clear one"
-  unfoldable pub throughParity : Images → ℕ → ℕ → Record → Fetched
-  throughParity s j m r =
+  unfoldable pub throughParity : (ℕ → ℕ → Page) → ℕ → ℕ → Record → Fetched
+  throughParity y j m r =
       record {
-        bytes =
-            bytesAt l (pageAt l (s .chips)) (parityChip l j) (r .parity)
-            ⊕ gathered l (pageAt l (s .chips)) j (othersUnderParity m r);
+        bytes = bytesAt l y (parityChip l j) (r .parity) ⊕ gathered l y j (othersUnderParity m r);
         reads = readsAt l (r .parity) + gatheredReads l (othersUnderParity m r);
       }
 
   -- "On the lost chip, a written page is gathered"
-  abbrev pub rebuilt : Images → ℕ → ℕ → Record → Fetched
-  rebuilt s j m r = cond (bit r m) (throughPartial s j m r) (throughParity s j m r)
+  abbrev pub rebuilt : (ℕ → ℕ → Page) → (ℕ → List ℕ) → ℕ → ℕ → Record → Fetched
+  rebuilt y z j m r = cond (bit r m) (throughPartial y z j m r) (throughParity y j m r)
 
   -- "copies the current page"
-  abbrev pub direct : Images → ℕ → ℕ → Record → Fetched
-  direct s j m r = record { bytes = pageAt l (s .chips) (memberChip l j m) (r .current m) .bytes; reads = 1 }
+  abbrev pub direct : (ℕ → ℕ → Page) → ℕ → ℕ → Record → Fetched
+  direct y j m r = record { bytes = y (memberChip l j m) (r .current m) .bytes; reads = 1 }
 
   -- "zeros if none"
   abbrev pub unwritten : Fetched
   unwritten = record { bytes = replicate W 0; reads = 0 }
 
   -- "copies the current page; zeros if none"
-  unfoldable pub fetchMember : Images → ℕ → ℕ → ℕ → Record → Fetched
-  fetchMember s lost j m r =
+  unfoldable pub fetchMember : (ℕ → ℕ → Page) → (ℕ → List ℕ) → ℕ → ℕ → ℕ → Record → Fetched
+  fetchMember y z lost j m r =
       cond (isNone l (r .current m)) unwritten
-      (cond (eqb (memberChip l j m) lost) (rebuilt s j m r) (direct s j m r))
+      (cond (eqb (memberChip l j m) lost) (rebuilt y z j m r) (direct y j m r))
 
   -- the read of logical page i
   unfoldable pub fetch : Images → ℕ → ℕ → Fetched
-  fetch s lost i = fetchMember s lost (stripeOf l i) (memberOf l i) (recordAt l (s .records) (stripeOf l i))
+  fetch s lost i =
+      fetchMember (pageAt l (s .chips)) (slotAt l (s .slots)) lost (stripeOf l i) (memberOf l i)
+      (recordAt l (s .records) (stripeOf l i))

@@ -45,13 +45,13 @@ module _ (l : Layout) where
   unfoldable pub lowestFreeSlot : (ℕ → Record) → Found
   lowestFreeSlot r = firstBelow (M + 1) (freeSlot r)
 
-  -- "the new partial parity: the data; or partial ⊕ data; or, if bit m was set, partial ⊕ current page ⊕ data"
-  unfoldable pub newPartial : Images → ℕ → ℕ → List ℕ → Record → List ℕ
-  newPartial s j m xs r =
+  -- with the pages y of each chip and the slots z: "the new partial parity: the data; or partial ⊕ data; or, if bit m was set, partial ⊕ current page ⊕ data"
+  unfoldable pub newPartial : (ℕ → ℕ → Page) → (ℕ → List ℕ) → ℕ → ℕ → List ℕ → Record → List ℕ
+  newPartial y z j m xs r =
       cond (hasSlot r)
       (cond (bit r m)
-      (slotAt l (s .slots) (r .slot) ⊕ bytesAt l (pageAt l (s .chips)) (memberChip l j m) (r .current m) ⊕ xs)
-      (slotAt l (s .slots) (r .slot) ⊕ xs))
+      (z (r .slot) ⊕ bytesAt l y (memberChip l j m) (r .current m) ⊕ xs)
+      (z (r .slot) ⊕ xs))
       xs
 
   -- "(one page read)"
@@ -73,7 +73,10 @@ module _ (l : Layout) where
   -- the stores of slot i and of record j, which is r, for a page that stands at p
   abbrev pub slotStores : ℕ → ℕ → List ℕ → ℕ → Images → Record → ℕ → List Step
   slotStores j m xs p s r i =
-      record { reads = newPartialReads m r; store = slot i (newPartial s j m xs r) }
+      record {
+        reads = newPartialReads m r;
+        store = slot i (newPartial (pageAt l (s .chips)) (slotAt l (s .slots)) j m xs r);
+      }
       ∷ plain (stripe j (written m p i r))
       ∷ []
 

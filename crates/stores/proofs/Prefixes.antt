@@ -1,7 +1,6 @@
 -- Cuts: what holds after every prefix of a list of stores.
 use Prim.Native.Nat.{ℕ, zero, suc, _<_}
 use native.Mathlib.Nat.{le-refl, le-step, lt-suc-self, not-suc-le-zero, le-of-suc-le-suc}
-use mathlib.Core.Path.{_≡_, refl}
 use mathlib.Core.List.{List, [], _∷_, _++_}
 use lib.ListN.{length}
 use lib.Seq.{take-all}
@@ -23,19 +22,19 @@ module _ (l : Layout) where
     every-nil s h zero = h
     every-nil s h (suc a) = h
 
-    pub every-cons : (x : Step) (xs : List Step) (s : Images) → P s → Every P xs (apply l (x .store) s) → Every P (x ∷ xs) s
+    every-cons : (x : Step) (xs : List Step) (s : Images) → P s → Every P xs (apply l (x .store) s) → Every P (x ∷ xs) s
     unfolding applyAll
     every-cons x xs s h rest zero = h
     every-cons x xs s h rest (suc a) = rest a
 
-    pub every-append : (xs ys : List Step) (s : Images) → Every P xs s → Every P ys (applyAll l xs s) → Every P (xs ++ ys) s
+    every-append : (xs ys : List Step) (s : Images) → Every P xs s → Every P ys (applyAll l xs s) → Every P (xs ++ ys) s
     unfolding applyAll
     every-append [] ys s first second a = second a
     every-append (x ∷ xs) ys s first second zero = first zero
     every-append (x ∷ xs) ys s first second (suc a) =
         every-append xs ys (apply l (x .store) s) (λ i. first (suc i)) second a
 
-    pub every-whole : (xs : List Step) (s : Images) → Every P xs s → P (applyAll l xs s)
+    every-whole : (xs : List Step) (s : Images) → Every P xs s → P (applyAll l xs s)
     every-whole xs s h = rw (take-all (length xs) xs (le-refl (length xs))) at (h (length xs))
 
   -- R holds between the images before xs and those after each of its prefixes, and Q after all of it
@@ -135,7 +134,7 @@ module _ (l : Layout) where
     closes-two x y s same step last = record { cut = cuts-two (R s) x y s same step; whole = last }
 
     module _ (trans : (s t u : Images) → R s t → R t u → R s u) (closing : (s t u : Images) → R s t → F t u → F s u) where
-      pub closes-append : (Q : Images → Type 0) (xs ys : List Step) (s : Images) → Leads R Q xs s
+      closes-append : (Q : Images → Type 0) (xs ys : List Step) (s : Images) → Leads R Q xs s
           → (R s (applyAll l xs s) → Q (applyAll l xs s) → Closes R F ys (applyAll l xs s)) → Closes R F (xs ++ ys) s
       closes-append Q xs ys s first next =
           let t = applyAll l xs s in

@@ -1,32 +1,26 @@
 -- The view after a store is the view, updated at one place. Only here do offsets matter.
-use Prim.Native.Nat.{ℕ, _+_, _*_, _/_, _%_, _≤_, _<_}
+use Prim.Native.Nat.{ℕ, _+_, _*_, _≤_, _<_}
 use native.Mathlib.Decide.{decLt}
 use native.Mathlib.Omega.{arith}
 use mathlib.Core.Path.{_≡_, sym, ap, _∙_, fun-ext}
 use mathlib.Core.Logic.{_≢_}
-use mathlib.Core.Bool.{cond}
+use mathlib.Core.Bool.{cond, true}
 use mathlib.Core.List.{List, []}
-use lib.ListN.{length, replicate, length-replicate}
-use lib.Arith.{digits-lt, digits-div, digits-mod}
+use lib.ListN.{length, replicate, length-replicate, getD-replicate}
+use lib.Arith.{digits-lt}
 use borrow.Author.Tests.{lt-ltb, le-ltb, le-leb, lt-leb}
 use Rattle.units.specs.Units.{unit, unitPut}
 use Rattle.units.specs.Update.{at}
-use Rattle.units.proofs.Units.{unit-unit, unit-unit-outside, apart, unit-same, unit-other, length-unitPut, length-put-units, unit-fill-in, unit-fill-before, unit-fill-after}
+use Rattle.units.proofs.Units.{unit-unit, unit-unit-outside, apart, unit-same, unit-other, length-unitPut, length-put-units, unit-fill-in, unit-fill-before}
+use Rattle.units.proofs.Units.{unit-fill-after, same-index}
 use Rattle.units.proofs.Updates.{at-unique}
 use Rattle.layout.specs.Layout.{Layout, pages, inBlock, pageBytes, recordBytes}
-use Rattle.layout.specs.Page.{Page, pageOf, bytesOfPage, pageAt}
+use Rattle.layout.specs.Page.{Page, pageOf, bytesOfPage, pageAt, clean}
 use Rattle.layout.specs.Record.{Record, recordOf, bytesOfRecord, recordAt}
 use Rattle.layout.specs.Collection.{Collection, collectionOf, bytesOfCollection, collectionAt}
 use Rattle.layout.specs.Images.{chipsLength, recordsLength, slotsLength, slotAt}
 use Rattle.layout.proofs.Codec.{PageFits, length-page, page-decodes, RecordFits, length-record, record-decodes, CollectionFits, length-collection, collection-decodes}
 use Rattle.stores.specs.Store.{programmed, erased, recorded}
-
--- an index of two digits tells both
-pub same-index : (n c p c′ p′ : ℕ) → p < n → p′ < n → c * n + p ≡ c′ * n + p′ → (c ≡ c′) × (p ≡ p′)
-same-index n c p c′ p′ h h′ e = (
-  sym (digits-div c h) ∙ ap (λ (i : ℕ). i / n) e ∙ digits-div c′ h′,
-  sym (digits-mod c h) ∙ ap (λ (i : ℕ). i % n) e ∙ digits-mod c′ h′,
-)
 
 module _ (l : Layout) where
   open Layout l using (N, W, K, B, S, M, D)
@@ -34,6 +28,10 @@ module _ (l : Layout) where
   -- a page of an erased block
   unfoldable pub erasedPage : Page
   erasedPage = pageOf l (replicate (pageBytes l) 255)
+
+  pub erased-clean : clean erasedPage ≡ true
+  unfolding erasedPage pageOf
+  erased-clean = rw (getD-replicate {A = ℕ} (pageBytes l) W 255 0 (omega arith))
 
   -- the pages of a chip with block b erased
   unfoldable pub wiped : ℕ → (ℕ → Page) → ℕ → Page

@@ -1,19 +1,17 @@
 -- Laws of the ways to look through the numbers below a bound.
+use Prim.Native.Nat.{ℕ, zero, suc, _≤_, _<_, suc-le-suc}
+use native.Mathlib.Nat.{not-suc-le-zero, le-step, lt-suc-self, le-refl, le-of-lt, lt-of-lt-of-le, lt-trans}
+use native.Mathlib.Omega.{arith}
+use native.Mathlib.Decide.{decLt, ℕ-discrete}
 use mathlib.Core.Path.{_≡_, refl, sym, ap, _∙_}
 use mathlib.Core.Logic.{_≢_}
-use Prim.Native.Nat.{ℕ, zero, suc, _≤_, _<_, suc-le-suc}
-use native.Mathlib.Nat.{not-suc-le-zero, le-step, lt-suc-self, le-refl, le-of-lt, lt-of-lt-of-le, lt-trans, ne-of-lt}
-use native.Mathlib.Omega.{arith}
-use native.Mathlib.Decide.{decLt}
-use mathlib.Core.Bool.{Bool, true, false, not, _&&_, true≢false, and-eq-true-iff, and-true, and-false, or-true, or-false}
-use lib.Dec.{eqb}
-use lib.Arith.{le-zero}
-use borrow.Author.Tests.{lt-ltb, le-ltb, eq-eqb, ne-eqb}
+use mathlib.Core.Bool.{Bool, true, false, true≢false, and-eq-true-iff, and-true, or-true, or-false}
+use borrow.Author.Tests.{lt-ltb, le-ltb}
 use Rattle.units.specs.declared.Found.{Found}
 use Rattle.units.specs.declared.Found.the-variants.{At, Nothing}
-use Rattle.units.specs.Look.{allBelow, someBelow, countBelow, firstBelow, leastBelow}
+use Rattle.units.specs.Look.{allBelow, someBelow, firstBelow, leastBelow, whenFound}
 
--- cases: of a test, of the last number below suc n, of an order, of an answer
+-- cases: of a test, of the last number below suc n, of an order, of two numbers, of an answer
 pub by-test {ℓ} : {P : Type ℓ} (b : Bool) → (b ≡ true → P) → (b ≡ false → P) → P
 by-test true yea nay = yea refl
 by-test false yea nay = nay refl
@@ -27,6 +25,9 @@ by-order a b less rest = elim (decLt a b) [ yes h ↦ less h | no h ↦ rest (om
 pub by-three {ℓ} : {P : Type ℓ} (a b : ℕ) → (a < b → P) → (a ≡ b → P) → (b < a → P) → P
 by-three a b less same more = by-order a b less (λ h. at-last b a (suc-le-suc h) more (λ q. same (sym q)))
 
+pub by-same {ℓ} : {P : Type ℓ} (a b : ℕ) → (a ≡ b → P) → (a ≢ b → P) → P
+by-same a b same other = elim (ℕ-discrete a b) [ yes e ↦ same e | no d ↦ other d ]
+
 pub by-found {ℓ} : {P : Type ℓ} (r : Found) → ((i : ℕ) → r ≡ At i → P) → (r ≡ Nothing → P) → P
 by-found (At i) at nothing = at i refl
 by-found Nothing at nothing = nothing refl
@@ -36,6 +37,11 @@ both b t f = absurd (true≢false (sym t ∙ f))
 
 pub not-found {ℓ} : {P : Type ℓ} (i : ℕ) → Nothing ≡ At i → P
 not-found i e = let z : _≡_ {A = ℕ} 0 1 = cc in absurd (omega arith)
+
+pub when-found : (f : Found) → whenFound f (λ b. true) false ≡ true → (b : ℕ) × (f ≡ At b)
+unfolding whenFound
+when-found (At b) e = (b, refl)
+when-found Nothing e = both false e refl
 
 -- all
 pub all-true : (n : ℕ) (f : ℕ → Bool) → ((i : ℕ) → i < n → f i ≡ true) → allBelow n f ≡ true
@@ -86,123 +92,6 @@ pub some-cong : (n : ℕ) (f g : ℕ → Bool) → ((i : ℕ) → i < n → f i 
 unfolding someBelow
 some-cong zero f g h = refl
 some-cong (suc n) f g h = rw (some-cong n f g (λ i b. h i (le-step b)), h n (lt-suc-self n))
-
--- count: the next number, bounds, and where all or none pass
-pub count-pass : (n : ℕ) (f : ℕ → Bool) → f n ≡ true → countBelow (suc n) f ≡ suc (countBelow n f)
-unfolding countBelow
-count-pass n f t = rw t
-
-pub count-fail : (n : ℕ) (f : ℕ → Bool) → f n ≡ false → countBelow (suc n) f ≡ countBelow n f
-unfolding countBelow
-count-fail n f t = rw t
-
-pub count-next : (n : ℕ) (f : ℕ → Bool) → (countBelow n f ≤ countBelow (suc n) f) × (countBelow (suc n) f ≤ suc (countBelow n f))
-count-next n f = by-test (f n) (λ t. omega (arith, count-pass n f t)) (λ t. omega (arith, count-fail n f t))
-
-pub count-start : (f : ℕ → Bool) → countBelow 0 f ≡ 0
-unfolding countBelow
-count-start f = refl
-
-pub count-le : (n : ℕ) (f : ℕ → Bool) → countBelow n f ≤ n
-count-le zero f = omega (arith, count-start f)
-count-le (suc n) f = omega (arith, count-next n f, count-le n f)
-
-pub count-mono : (n m : ℕ) (f : ℕ → Bool) → n ≤ m → countBelow n f ≤ countBelow m f
-count-mono n zero f h = rw (le-zero h) (le-refl (countBelow 0 f))
-count-mono n (suc m) f h = at-last n (suc m) (suc-le-suc h)
-    (λ b. omega (arith, count-next m f, count-mono n m f (omega arith)))
-    (λ q. rw q (le-refl (countBelow (suc m) f)))
-
-pub count-cong : (n : ℕ) (f g : ℕ → Bool) → ((i : ℕ) → i < n → f i ≡ g i) → countBelow n f ≡ countBelow n g
-unfolding countBelow
-count-cong zero f g h = refl
-count-cong (suc n) f g h = rw (count-cong n f g (λ i b. h i (le-step b)), h n (lt-suc-self n))
-
-pub count-zero : (n : ℕ) (f : ℕ → Bool) → ((i : ℕ) → i < n → f i ≡ false) → countBelow n f ≡ 0
-count-zero zero f h = count-start f
-count-zero (suc n) f h = count-fail n f (h n (lt-suc-self n)) ∙ count-zero n f (λ i b. h i (le-step b))
-
-pub count-all : (n : ℕ) (f : ℕ → Bool) → ((i : ℕ) → i < n → f i ≡ true) → countBelow n f ≡ n
-count-all zero f h = count-start f
-count-all (suc n) f h = count-pass n f (h n (lt-suc-self n)) ∙ ap suc (count-all n f (λ i b. h i (le-step b)))
-
-pub count-less : (n : ℕ) (f : ℕ → Bool) (i : ℕ) → i < n → f i ≡ false → countBelow n f < n
-count-less zero f i h t = absurd (not-suc-le-zero h)
-count-less (suc n) f i h t = at-last i n h
-    (λ b. omega (arith, count-next n f, count-less n f i b t))
-    (λ q. omega (arith, count-fail n f (rw q at t), count-le n f))
-
-pub count-all-back : (n : ℕ) (f : ℕ → Bool) → countBelow n f ≡ n → (i : ℕ) → i < n → f i ≡ true
-count-all-back n f e i h = by-test (f i) (λ t. t) (λ t. absurd (omega (arith, count-less n f i h t)))
-
-pub count-positive : (n : ℕ) (f : ℕ → Bool) (i : ℕ) → i < n → f i ≡ true → 0 < countBelow n f
-count-positive n f i h t = omega (arith, count-mono (suc i) n f h, count-pass i f t)
-
-pub count-found : (n : ℕ) (f : ℕ → Bool) → 0 < countBelow n f → (i : ℕ) × (i < n) × (f i ≡ true)
-count-found n f h = by-test (someBelow n f) (some-at n f)
-    (λ t. absurd (omega (arith, count-zero n f (some-none n f t))))
-
--- count: two tests
-pub count-implies : (n : ℕ) (f g : ℕ → Bool) → ((i : ℕ) → i < n → f i ≡ true → g i ≡ true) → countBelow n f ≤ countBelow n g
-count-implies zero f g h = omega (arith, count-start f)
-count-implies (suc n) f g h = let ih = count-implies n f g (λ i b. h i (le-step b)) in by-test (f n)
-    (λ t. omega (arith, count-pass n f t, count-pass n g (h n (lt-suc-self n) t)))
-    (λ t. omega (arith, count-fail n f t, count-next n g))
-
-still-one-more : (n : ℕ) (f g : ℕ → Bool) → countBelow n g ≡ suc (countBelow n f) → f n ≡ g n → countBelow (suc n) g ≡ suc (countBelow (suc n) f)
-still-one-more n f g e same = by-test (f n)
-    (λ t. omega (arith, count-pass n f t, count-pass n g (sym same ∙ t)))
-    (λ t. omega (arith, count-fail n f t, count-fail n g (sym same ∙ t)))
-
-pub count-flip : (n : ℕ) (f g : ℕ → Bool) (i : ℕ) → i < n → f i ≡ false → g i ≡ true → ((k : ℕ) → k < n → k ≢ i → f k ≡ g k)
-    → countBelow n g ≡ suc (countBelow n f)
-count-flip zero f g i h nay yea e = absurd (not-suc-le-zero h)
-count-flip (suc n) f g i h nay yea e = at-last i n h
-    (λ b. still-one-more n f g (count-flip n f g i b nay yea (λ k c. e k (le-step c))) (e n (lt-suc-self n) (omega arith)))
-    (λ q. count-pass n g (rw q at yea) ∙ ap suc (sym (count-fail n f (rw q at nay) ∙ count-cong n f g (λ k c. e k (le-step c) (omega arith)))))
-
--- pigeonhole
-except : (ℕ → Bool) → ℕ → ℕ → Bool
-except s c k = s k && not (eqb k c)
-
-except-at : (s : ℕ → Bool) (c : ℕ) → except s c c ≡ false
-unfolding except
-except-at s c = rw (eq-eqb c c refl, and-false)
-
-except-other : (s : ℕ → Bool) (c k : ℕ) → k ≢ c → except s c k ≡ s k
-unfolding except
-except-other s c k d = rw (ne-eqb k c d, and-true)
-
-count-except : (m : ℕ) (s : ℕ → Bool) (c : ℕ) → c < m → s c ≡ true → countBelow m s ≡ suc (countBelow m (except s c))
-count-except m s c h t = count-flip m (except s c) s c h (except-at s c) t (λ k _. except-other s c k)
-
--- f takes those below n that pass t to those below m that pass s; no two of them to one
-abbrev pub Into : ℕ → ℕ → (ℕ → Bool) → (ℕ → Bool) → (ℕ → ℕ) → Type 0
-Into n m t s f = (i : ℕ) → i < n → t i ≡ true → (f i < m) × (s (f i) ≡ true)
-
-abbrev pub OneToOne : ℕ → (ℕ → Bool) → (ℕ → ℕ) → Type 0
-OneToOne n t f = (i j : ℕ) → i < n → j < n → t i ≡ true → t j ≡ true → f i ≡ f j → i ≡ j
-
-fewer : (n : ℕ) (t : ℕ → Bool) (f : ℕ → ℕ) → OneToOne (suc n) t f → OneToOne n t f
-fewer n t f inj i j b c = inj i j (le-step b) (le-step c)
-
-into-except : (n m : ℕ) (t s : ℕ → Bool) (f : ℕ → ℕ) → t n ≡ true → Into (suc n) m t s f → OneToOne (suc n) t f → Into n m t (except s (f n)) f
-into-except n m t s f p to inj i b q =
-    let (below, passes) = to i (le-step b) q in
-    let other : f i ≢ f n = λ e. ne-of-lt b (inj i n (le-step b) (lt-suc-self n) q p e) in
-    (below, except-other s (f n) (f i) other ∙ passes)
-
-pub pigeonhole-into : (n m : ℕ) (t s : ℕ → Bool) (f : ℕ → ℕ) → Into n m t s f → OneToOne n t f → countBelow n t ≤ countBelow m s
-pigeonhole-into zero m t s f to inj = omega (arith, count-start t)
-pigeonhole-into (suc n) m t s f to inj = by-test (t n)
-    (λ p.
-    let (below, passes) = to n (lt-suc-self n) p in
-    let ih = pigeonhole-into n m t (except s (f n)) f (into-except n m t s f p to inj) (fewer n t f inj) in
-    omega (arith, ih, count-pass n t p, count-except m s (f n) below passes))
-    (λ p. omega (arith, count-fail n t p, pigeonhole-into n m t s f (λ i b. to i (le-step b)) (fewer n t f inj)))
-
-pub pigeonhole : (n m : ℕ) (t : ℕ → Bool) (f : ℕ → ℕ) → ((i : ℕ) → i < n → t i ≡ true → f i < m) → OneToOne n t f → countBelow n t ≤ m
-pigeonhole n m t f to inj = omega (arith, count-le m (λ k. true), pigeonhole-into n m t (λ k. true) f (λ i b q. (to i b q, refl)) inj)
 
 -- first: the next number, what the answer tells, and what tells the answer
 pub first-start : (f : ℕ → Bool) → firstBelow 0 f ≡ Nothing

@@ -1,10 +1,12 @@
--- A conjunction of tests holds exactly where each of them does; lists are equal where a test says so.
+-- Laws of tests: a conjunction, a disjunction, a choice, a test that fails; and lists that are equal by a test.
 use Prim.Native.Nat.{ℕ}
-use mathlib.Core.Path.{_≡_, refl, sym, ap₂}
-use lib.Dec.{eqb}
-use borrow.Author.Tests.{eqb-true}
-use mathlib.Core.Bool.{Bool, true, false, not, _&&_, _||_, false≢true}
+use mathlib.Core.Path.{_≡_, refl, ap₂}
+use mathlib.Core.Bool.{Bool, true, false, not, _&&_, _||_, false≢true, cond}
 use mathlib.Core.List.{List, [], _∷_}
+use mathlib.Core.Logic.{_≢_}
+use lib.Dec.{eqb}
+use borrow.Author.Tests.{eqb-true, eq-eqb, ne-eqb, eqb-false, not-true, not-false}
+use Rattle.units.proofs.Looks.{both}
 
 pub and-both : (a b : Bool) → a && b ≡ true → (a ≡ true) × (b ≡ true)
 and-both true b e = (refl, e)
@@ -33,16 +35,69 @@ pub all-chain : (a : Bool) (bs : List Bool) → a ≡ true → AllTrue bs → ch
 all-chain a [] e h = e
 all-chain a (b ∷ bs) e h = all-chain (a && b) bs (both-and e (h .0)) (h .1)
 
-pub not-true : (b : Bool) → not b ≡ true → b ≡ false
-not-true true e = sym e
-not-true false e = refl
-
 pub or-right : (a : Bool) {b : Bool} → b ≡ true → a || b ≡ true
 or-right true e = refl
 or-right false e = e
 
 pub or-true : (a : Bool) → a || true ≡ true
 or-true a = or-right a refl
+
+-- a disjunction as an implication
+pub or-else : (a b : Bool) → a || b ≡ true → a ≡ false → b ≡ true
+or-else true b e f = both true refl f
+or-else false b e f = e
+
+pub or-by : (a b : Bool) → (a ≡ false → b ≡ true) → a || b ≡ true
+or-by true b h = refl
+or-by false b h = h refl
+
+pub under : (a b : Bool) → not a || b ≡ true → a ≡ true → b ≡ true
+under a b e t = or-else (not a) b e (rw t)
+
+pub under-by : (a b : Bool) → (a ≡ true → b ≡ true) → not a || b ≡ true
+under-by a b h = or-by (not a) b (λ f. h (not-false a f))
+
+pub unless-equal : (a c : ℕ) (b : Bool) → eqb a c || b ≡ true → a ≢ c → b ≡ true
+unless-equal a c b e d = or-else (eqb a c) b e (ne-eqb a c d)
+
+pub unless-equal-by : (a c : ℕ) (b : Bool) → (a ≢ c → b ≡ true) → eqb a c || b ≡ true
+unless-equal-by a c b h = or-by (eqb a c) b (λ f. h (eqb-false a c f))
+
+-- a choice by its test
+pub cond-true : (a b c : Bool) → cond a b c ≡ true → a ≡ true → b ≡ true
+cond-true true b c e t = e
+cond-true false b c e t = both false t refl
+
+pub cond-false : (a b c : Bool) → cond a b c ≡ true → a ≡ false → c ≡ true
+cond-false true b c e f = both true refl f
+cond-false false b c e f = e
+
+pub cond-by : (a b c : Bool) → (a ≡ true → b ≡ true) → (a ≡ false → c ≡ true) → cond a b c ≡ true
+cond-by true b c yea nay = yea refl
+cond-by false b c yea nay = nay refl
+
+pub cond-equal : (n k : ℕ) (b c : Bool) → cond (eqb n k) b c ≡ true → n ≡ k → b ≡ true
+cond-equal n k b c e q = cond-true (eqb n k) b c e (eq-eqb n k q)
+
+pub cond-other : (n k : ℕ) (b c : Bool) → cond (eqb n k) b c ≡ true → n ≢ k → c ≡ true
+cond-other n k b c e d = cond-false (eqb n k) b c e (ne-eqb n k d)
+
+pub cond-equal-by : (n k : ℕ) (b c : Bool) → (n ≡ k → b ≡ true) → (n ≢ k → c ≡ true) → cond (eqb n k) b c ≡ true
+cond-equal-by n k b c same other = cond-by (eqb n k) b c (λ t. same (eqb-true n k t)) (λ f. other (eqb-false n k f))
+
+pub cond-same : (b : Bool) (n : ℕ) → cond b n n ≡ n
+cond-same true n = refl
+cond-same false n = refl
+
+-- a test that fails
+pub false-not : (b : Bool) → b ≡ false → not b ≡ true
+false-not b f = rw f
+
+pub differ : (a b : ℕ) → not (eqb a b) ≡ true → a ≢ b
+differ a b e = eqb-false a b (not-true (eqb a b) e)
+
+pub differ-by : (a b : ℕ) → a ≢ b → not (eqb a b) ≡ true
+differ-by a b d = false-not (eqb a b) (ne-eqb a b d)
 
 -- two lists are equal, by a test of their elements: so a computed row that is wrong fails at once
 module _ {A : Type 0} (same : A → A → Bool) where

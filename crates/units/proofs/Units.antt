@@ -1,18 +1,21 @@
 -- Laws of parts and units of a byte list: what a put leaves, and where it leaves it.
 -- The list laws stand at plain offsets. Those of units cite them, for a list that is n units of u bytes long.
-use mathlib.Core.Path.{_≡_, sym, ap, _∙_}
-use mathlib.Core.Logic.{_≢_}
-use Prim.Native.Nat.{ℕ, zero, suc, _+_, _-_, _*_, _≤_, _<_}
+use Prim.Native.Nat.{ℕ, zero, suc, _+_, _-_, _*_, _≤_, _<_, _/_, _%_}
 use native.Mathlib.Nat.{zero-add, suc-add, add-zero, suc-mul, add-mul, mul-assoc, mul-le-mul-right}
 use native.Mathlib.Omega.{arith}
 use native.Mathlib.Decide.{decLt}
+use mathlib.Core.Path.{_≡_, sym, ap, _∙_}
+use mathlib.Core.Logic.{_≢_}
 use mathlib.Core.List.{List, [], _∷_, _++_}
-use lib.ListN.{length, take, drop, getD, replicate, length-append, length-take, length-drop, length-replicate}
-use lib.ListN.{drop-of-length-le, replicate-append-replicate}
+use lib.ListN.{length, take, drop, getD, replicate, length-append, length-take, length-drop, length-replicate, drop-of-length-le, replicate-append-replicate}
 use lib.Seq.{length-take-le, take-all, take-nil, take-append-le, take-append-seam, drop-append-le, drop-append-add, take-take, drop-drop, getD-take, getD-drop}
+use lib.Arith.{digits-div, digits-mod}
 use Rattle.units.specs.Units.{part, put, unit, unitPut}
 
--- products: unit i ends where a later one starts or before, and a list of n units holds unit i, and the k units from a on
+-- products: one unit less and one more; unit i ends where a later one starts or before, and a list of n units holds unit i, and the k units from a on
+pub one-less : (b k : ℕ) → 1 ≤ b → (b - 1) * k + k ≡ b * k
+one-less b k h = let e : suc (b - 1) ≡ b = omega arith in sym (suc-mul (b - 1) k) ∙ ap (λ (n : ℕ). n * k) e
+
 pub apart : (u i j : ℕ) → i < j → i * u + u ≤ j * u
 apart u i j h = rw suc-mul at (mul-le-mul-right u h)
 
@@ -21,6 +24,13 @@ unit-fits n u i xs e h = rw e (apart u i n h)
 
 pub units-fit : (n u a k : ℕ) (xs : List ℕ) → length xs ≡ n * u → a + k ≤ n → a * u + k * u ≤ length xs
 units-fit n u a k xs e h = rw (e, ← add-mul) (mul-le-mul-right u h)
+
+-- an index of two digits tells both
+pub same-index : (n c p c′ p′ : ℕ) → p < n → p′ < n → c * n + p ≡ c′ * n + p′ → (c ≡ c′) × (p ≡ p′)
+same-index n c p c′ p′ h h′ e = (
+  sym (digits-div c h) ∙ ap (λ (i : ℕ). i / n) e ∙ digits-div c′ h′,
+  sym (digits-mod c h) ∙ ap (λ (i : ℕ). i % n) e ∙ digits-mod c′ h′,
+)
 
 -- the length of a part, and a byte of it
 pub length-part : (a k : ℕ) (xs : List ℕ) → a + k ≤ length xs → length (part a k xs) ≡ k

@@ -92,6 +92,17 @@ xors-zeros-r n a h = xors-comm a (replicate n 0) ∙ xors-zeros-l n a h
 pub xors-cancel : (a b : List ℕ) → length b ≤ length a → (a ⊕ b) ⊕ b ≡ a
 xors-cancel a b h = rw (xors-assoc a b b, xors-self b, xors-zeros-r (length b) a h)
 
+-- a list met twice drops out
+pub cancel-rest : (x g b : List ℕ) → x ≡ g ⊕ b → length g ≤ length b → x ⊕ g ≡ b
+cancel-rest x g b e h = rw (e, xors-comm g b) (xors-cancel b g h)
+
+pub cancel-inside : (a b c : List ℕ) → length b ≤ length c → a ⊕ b ⊕ b ⊕ c ≡ a ⊕ c
+cancel-inside a b c h =
+    rw (xors-assoc (a ⊕ b) b c, xors-assoc a b (b ⊕ c), xors-comm b (b ⊕ c), xors-comm b c, xors-cancel c b h)
+
+pub cancel-around : (a b c : List ℕ) → length b ≤ length a → a ⊕ (b ⊕ c ⊕ b) ≡ a ⊕ c
+cancel-around a b c h = rw (xors-swap b c b, ← xors-assoc a (b ⊕ b) c, ← xors-assoc a b b, xors-cancel a b h)
+
 -- ---- `xorBelow`
 
 pub xor-below-cong : (n : ℕ) (f g : ℕ → List ℕ) → ((i : ℕ) → i < n → f i ≡ g i) → xorBelow n f ≡ xorBelow n g
