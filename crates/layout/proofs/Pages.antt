@@ -1,5 +1,5 @@
 -- Page numbers on a chip: the place of a page in its block.
-use Prim.Native.Nat.{ℕ, _+_, _-_, _*_, _/_, _%_, _<_}
+use Prim.Native.Nat.{ℕ, _+_, _-_, _*_, _/_, _%_, _^_, _<_}
 use native.Mathlib.Nat.{mul-zero, mod-lt, div-add-mod', div-lt-iff-lt-mul}
 use native.Mathlib.Omega.{arith}
 use mathlib.Core.Path.{_≡_, sym, ap}
@@ -9,13 +9,14 @@ use lib.Arith.{digits-lt}
 use lib.Dec.{leb, ltb}
 use borrow.Author.Tests.{lt-ltb, le-leb, ltb-true, leb-true}
 use Rattle.units.proofs.Looks.{by-test, by-order}
+use Rattle.units.proofs.Numbers.{pow-positive}
 use Rattle.units.proofs.Tests.{and-both}
 use Rattle.units.proofs.Units.{same-index}
 use Rattle.layout.specs.Layout.{Layout, none, pages, pageIn, inBlock}
 use Rattle.layout.proofs.Limits.{Within}
 
 module _ (l : Layout) where
-  open Layout l using (K, B)
+  open Layout l using (K, B, D)
 
   -- place i of block b
   pub page-in-fits : (b i : ℕ) → b < B → i < K → pageIn l b i < pages l
@@ -50,3 +51,7 @@ module _ (l : Layout) where
   -- the number of a page is not the one that stands for none
   pub page-number : Within l → (p : ℕ) → p < pages l → p ≢ none l
   page-number w p h e = omega (arith, w .pages-numbered)
+
+  pub none-fits : none l < 256 ^ D
+  unfolding none
+  none-fits = omega (arith, pow-positive D)

@@ -14,7 +14,7 @@ use Rattle.units.proofs.Looks.{by-test}
 use Rattle.layout.specs.declared.Geometry.{Geometry}
 use Rattle.layout.specs.Layout.{Layout, layoutOf, noChip, limits}
 use Rattle.layout.specs.Page.{Page, pageAt}
-use Rattle.layout.specs.Record.{Record, recordAt}
+use Rattle.layout.specs.Record.{Record, hasSlot, recordAt}
 use Rattle.layout.specs.Collection.{Collection, collectionAt}
 use Rattle.layout.specs.Images.{Images, lengths}
 use Rattle.layout.proofs.Limits.{Within, within}
@@ -35,20 +35,23 @@ use Rattle.rules.specs.Write.{commitOwed, lowestFreeSlot, writeSteps}
 use Rattle.rules.specs.Read.{fetch}
 use Rattle.rules.specs.Calls.{ReadOutcome, run, outcome, readCall, writeCall}
 use Rattle.rules.specs.Book.{Verdict, done, cut, refused, verdict}
-use Rattle.rules.proofs.Fresh.{formatted, rank, lengths-are}
-use Rattle.rules.proofs.Statements.{Usable, RecordsSound, ChipSound, SoundBut, Sound, sound-chip}
-use Rattle.rules.proofs.Checks.{images-sound, lengths-pass, records-check-pass, spares-check-pass}
-use Rattle.rules.proofs.Accepted.{open-accepted, read-passes, WriteAccepted, write-accepted, write-passes, commit-accepted, collect-accepted}
-use Rattle.rules.proofs.Room.{victim-found, free-slot, stripe-to-commit}
-use Rattle.rules.proofs.Collecting.{still, collect-leads}
-use Rattle.rules.proofs.Lists.{open-lost, open-every, collect-every, commit-every, write-ends, write-every}
-use Rattle.rules.proofs.Invariant.{no-copies}
-use Rattle.rules.proofs.CutRule.{CutRules, cut-rules}
+use Rattle.rules.proofs.Lists.Fresh.{formatted, rank}
+use Rattle.rules.proofs.Soundness.Statements.{Usable, RecordsSound, ChipSound, SoundBut, Sound, sound-chip}
+use Rattle.rules.proofs.Soundness.Checks.{lengths-are, images-sound, lengths-pass, records-check-pass, spares-check-pass}
+use Rattle.rules.proofs.Soundness.Accepted.{open-accepted, read-passes, WriteAccepted, write-accepted, write-passes, commit-accepted, collect-accepted}
+use Rattle.rules.proofs.Space.Room.{victim-found, free-slot, stripe-to-commit}
+use Rattle.rules.proofs.Lists.Collecting.{still, collect-leads}
+use Rattle.rules.proofs.Lists.EachCall.{open-lost, open-every, collect-every, commit-every, write-ends, write-every}
+use Rattle.rules.proofs.Demand.Invariant.{no-copies}
+use Rattle.rules.proofs.Lists.CutRule.{CutRules, cut-rules}
 use Rattle.rules.specs.Demand.{Demand3}
-use Rattle.rules.proofs.Demand.{demand-3}
-use Rattle.rules.proofs.RecordChecks.{records-sound, records-pass}
-use Rattle.rules.proofs.ChipChecks.{chip-sound, chip-pass}
-use Rattle.rules.proofs.FreshSound.{fresh-sound}
+use Rattle.rules.proofs.Demand.Events.{demand-3}
+use Rattle.rules.proofs.Soundness.RecordChecks.{records-sound, records-pass}
+use Rattle.rules.proofs.Soundness.ChipChecks.{chip-sound, chip-pass}
+use Rattle.rules.proofs.Lists.FreshSound.{fresh-sound}
+use Rattle.rules.proofs.Data.Carries.{Wrote}
+use Rattle.rules.proofs.Lists.Committing.{Committed, commit-closes}
+use Rattle.rules.proofs.Lists.Writing.{write-closes}
 
 module _ (l : Layout) where
   open Layout l using (N, W, S)
@@ -77,6 +80,9 @@ module _ (l : Layout) where
     pub stripe : (j : ℕ) → commitOwed l (recordAt l (s .records)) j ≡ true → (k : ℕ) × (cheapest l (recordAt l (s .records)) ≡ At k)
     -- "No write is refused for want of space."
     pub accepted : (page : ℕ) (xs : List ℕ) → page < N * S → length xs ≡ W → writeCheck l s noChip page xs ≡ Passed
+    -- no list stops short: the whole list of a write writes its page, that of a commit frees its slot
+    pub writes : (page : ℕ) (xs : List ℕ) → page < N * S → length xs ≡ W → Wrote l page xs s (applyAll l (writeSteps l page xs s) s)
+    pub commits : (j : ℕ) → j < S → hasSlot (recordAt l (s .records) j) ≡ true → Committed l j s (applyAll l (commitSteps l j s) s)
 
   -- the read of page i of images s that names no chip is done, and gives ys
   abbrev pub Reads : Images → ℕ → List ℕ → Type 0
@@ -156,6 +162,8 @@ module _ (l : Layout) (some : 1 ≤ l .D) (narrow : l .D ≤ 4) where
     stripe = λ j owed. let least = stripe-to-commit l w (recordAt l (s .records)) j owed in (least .0, least .1);
     accepted = λ page xs inside whole.
         write-passes l s page xs (record { within = w; sound = f; at-rest = rest; page = inside; whole = whole });
+    writes = λ page xs inside whole. write-closes l (usable w) page inside xs whole s f rest .whole;
+    commits = λ j fits has. commit-closes l (usable w) j fits s f rest has .whole;
   }
 
   sound-reads : Within l → (s : Images) → Sound l s → (i : ℕ) → i < N * S → Reads l s i (fetch l s noChip i .bytes)

@@ -1,0 +1,276 @@
+-- The two XOR groups of a stripe under a rebuilt read, a write and a commit.
+use Prim.Native.Nat.{ℕ, _<_}
+use native.Mathlib.Decide.{ℕ-discrete}
+use native.Mathlib.Omega.{arith}
+use mathlib.Core.Path.{_≡_, refl, sym, ap, _∙_}
+use mathlib.Core.Logic.{_≢_}
+use mathlib.Core.Bool.{true, false, not, _&&_, cond, and-true, and-false}
+use mathlib.Core.List.{List}
+use lib.ListN.{length}
+use lib.Dec.{eqb}
+use borrow.Author.Tests.{eq-eqb, ne-eqb}
+use Rattle.units.specs.Xor.{_⊕_}
+use Rattle.units.proofs.Looks.{by-test, both}
+use Rattle.units.proofs.Updates.{at-same, at-other}
+use Rattle.units.proofs.Xors.{xor-nil-l, xor-nil-r, cancel-around, cancel-inside, cancel-rest}
+use Rattle.layout.specs.Layout.{Layout, none}
+use Rattle.layout.specs.Rotation.{parityChip, memberChip}
+use Rattle.layout.specs.Page.{Page}
+use Rattle.layout.specs.Record.{Record, bit, hasSlot}
+use Rattle.layout.proofs.Limits.{Within}
+use Rattle.layout.proofs.Bits.{test-set-same, test-set-other}
+use Rattle.layout.proofs.Rotations.{member-chip-fits}
+use Rattle.layout.proofs.Records.{bits-of-none}
+use Rattle.rules.specs.Gather.{bytesAt, gathered}
+use Rattle.rules.specs.Read.{othersInside, othersUnderParity}
+use Rattle.rules.specs.Write.{newPartial, written}
+use Rattle.rules.specs.Commit.{setBits, mostInPartial, currentOutside, oldInside, newParity, committed}
+use Rattle.rules.proofs.Soundness.Statements.{Numbered, RecordSound, sound-member}
+use Rattle.rules.proofs.Data.Contents.{currentInside, underParity, StripeData, Whole, bytes-none, bytes-page, numbered-none, numbered-cond, length-bytes}
+use Rattle.rules.proofs.Data.Contents.{gathered-cong, gathered-same, gathered-none, gathered-one, gathered-split, length-gathered, gathered-whole, some-bit, bit-slot}
+use Rattle.rules.proofs.Data.Contents.{no-slot-no-bit}
+
+-- ---- the record of a write
+
+module _ (l : Layout) (m p i : ℕ) (r : Record) where
+  pub written-bit : bit (written l m p i r) m ≡ true
+  unfolding bit written
+  written-bit = test-set-same (r .bitmap) m
+
+  pub written-bit-other : (k : ℕ) → k ≢ m → bit (written l m p i r) k ≡ bit r k
+  unfolding bit written
+  written-bit-other k d = test-set-other (r .bitmap) m k d
+
+  pub written-current : written l m p i r .current m ≡ p
+  unfolding written
+  written-current = at-same m p (r .current)
+
+  pub written-current-other : (k : ℕ) → k ≢ m → written l m p i r .current k ≡ r .current k
+  unfolding written
+  written-current-other k d = at-other m p (r .current) k d
+
+  -- the old page of the member is what the parity held of it
+  pub written-old : written l m p i r .old m ≡ underParity l r m
+  unfolding written underParity
+  written-old = by-test (bit r m) (λ t. rw t) (λ t. rw (t, at-same m (r .current m) (r .old)))
+
+  pub written-old-other : (k : ℕ) → k ≢ m → written l m p i r .old k ≡ r .old k
+  unfolding written
+  written-old-other k d = by-test (bit r m) (λ t. rw t) (λ t. rw (t, at-other m (r .current m) (r .old) k d))
+
+  -- so the group under the parity does not change
+  written-under-parity : (k : ℕ) → underParity l (written l m p i r) k ≡ underParity l r k
+  unfolding underParity
+  written-under-parity k = elim (ℕ-discrete k m) [
+    | yes e ↦ rw (e, written-bit) written-old
+    | no d ↦ rw (written-bit-other k d, written-old-other k d, written-current-other k d)
+  ]
+
+  written-inside : currentInside l (written l m p i r) m ≡ p
+  unfolding currentInside
+  written-inside = rw written-bit written-current
+
+  written-inside-other : (k : ℕ) → k ≢ m → othersInside l m r k ≡ currentInside l (written l m p i r) k
+  unfolding currentInside othersInside
+  written-inside-other k d =
+      rw (ne-eqb k m d, and-true, written-bit-other k d, written-current-other k d)
+
+-- ---- a member taken out of its group
+
+module _ (l : Layout) (m : ℕ) (r : Record) where
+  pub others-inside-here : othersInside l m r m ≡ none l
+  unfolding othersInside
+  others-inside-here = rw (eq-eqb m m refl, and-false)
+
+  others-inside-other : (k : ℕ) → k ≢ m → othersInside l m r k ≡ currentInside l r k
+  unfolding othersInside currentInside
+  others-inside-other k d = rw (ne-eqb k m d, and-true)
+
+  inside-set : bit r m ≡ true → currentInside l r m ≡ r .current m
+  unfolding currentInside
+  inside-set t = rw t
+
+  inside-clear : bit r m ≡ false → currentInside l r m ≡ none l
+  unfolding currentInside
+  inside-clear t = rw t
+
+  -- where its bit is clear, nothing is taken out
+  others-inside-clear : bit r m ≡ false → (k : ℕ) → currentInside l r k ≡ othersInside l m r k
+  others-inside-clear t k = elim (ℕ-discrete k m) [
+    | yes e ↦ rw (e, others-inside-here) (inside-clear t)
+    | no d ↦ sym (others-inside-other k d)
+  ]
+
+  under-parity-clear : bit r m ≡ false → underParity l r m ≡ r .current m
+  unfolding underParity
+  under-parity-clear t = rw t
+
+  pub under-parity-here : bit r m ≡ false → othersUnderParity l m r m ≡ none l
+  unfolding othersUnderParity
+  under-parity-here t = rw (t, eq-eqb m m refl)
+
+  under-parity-other : (k : ℕ) → k ≢ m → othersUnderParity l m r k ≡ underParity l r k
+  unfolding othersUnderParity underParity
+  under-parity-other k d = rw (ne-eqb k m d)
+
+-- the record of a commit has every current page under the parity
+committed-under-parity : (l : Layout) (p : ℕ) (r : Record) (m : ℕ) → underParity l (committed l p r) m ≡ r .current m
+unfolding committed
+committed-under-parity l p r m = under-parity-clear l m (committed l p r) (bits-of-none (committed l p r) refl m)
+
+-- ---- the numbers of a sound record are pages or none
+
+module _ (l : Layout) (w : Within l) (r : Record) (f : RecordSound l r) where
+  open Layout l using (N)
+
+  numbered-inside : (m : ℕ) → m < N → Numbered l (currentInside l r m)
+  unfolding currentInside
+  numbered-inside m h = numbered-cond l (bit r m) (r .current m) (none l) (sound-member l w r f m h .current) (numbered-none l)
+
+  numbered-old : (m : ℕ) → m < N → Numbered l (oldInside l r m)
+  unfolding oldInside
+  numbered-old m h = numbered-cond l (bit r m) (r .old m) (none l) (sound-member l w r f m h .old) (numbered-none l)
+
+  numbered-others-inside : (m k : ℕ) → k < N → Numbered l (othersInside l m r k)
+  unfolding othersInside
+  numbered-others-inside m k h =
+      numbered-cond l (bit r k && not (eqb k m)) (r .current k) (none l) (sound-member l w r f k h .current) (numbered-none l)
+
+  numbered-others-under-parity : (m k : ℕ) → k < N → Numbered l (othersUnderParity l m r k)
+  unfolding othersUnderParity
+  numbered-others-under-parity m k h =
+      numbered-cond l (bit r k) (r .old k) (cond (eqb k m) (none l) (r .current k)) (sound-member l w r f k h .old)
+      (numbered-cond l (eqb k m) (none l) (r .current k) (numbered-none l) (sound-member l w r f k h .current))
+
+-- ---- the groups together
+
+module _ (l : Layout) (y : ℕ → ℕ → Page) (j : ℕ) (r : Record) where
+  inside-outside : gathered l y j (currentInside l r) ⊕ gathered l y j (currentOutside l r) ≡ gathered l y j (r .current)
+  unfolding currentInside currentOutside
+  inside-outside =
+      gathered-split l y j (currentInside l r) (currentOutside l r) (r .current)
+      (λ m h. by-test (bit r m)
+      (λ t. rw (t, bytes-none l y (memberChip l j m)) (xor-nil-r (bytesAt l y (memberChip l j m) (r .current m))))
+      (λ t. rw (t, bytes-none l y (memberChip l j m)) (xor-nil-l (bytesAt l y (memberChip l j m) (r .current m)))))
+
+  old-outside : gathered l y j (oldInside l r) ⊕ gathered l y j (currentOutside l r) ≡ gathered l y j (underParity l r)
+  unfolding oldInside currentOutside underParity
+  old-outside =
+      gathered-split l y j (oldInside l r) (currentOutside l r) (underParity l r)
+      (λ m h. by-test (bit r m)
+      (λ t. rw (t, bytes-none l y (memberChip l j m)) (xor-nil-r (bytesAt l y (memberChip l j m) (r .old m))))
+      (λ t. rw (t, bytes-none l y (memberChip l j m)) (xor-nil-l (bytesAt l y (memberChip l j m) (r .current m)))))
+
+-- ---- one stripe
+
+module _ (l : Layout) (w : Within l) (y : ℕ → ℕ → Page) (whole : Whole l y) (z : ℕ → List ℕ) (j : ℕ) (r : Record) (f : RecordSound l r) (d : StripeData l y z j r) where
+  open Layout l using (N, W)
+
+  page-whole : (m : ℕ) → m < N → r .current m ≢ none l → length (bytesAt l y (memberChip l j m) (r .current m)) ≡ W
+  page-whole m h e =
+      length-bytes l y whole (memberChip l j m) (r .current m) (member-chip-fits l j m h) (sound-member l w r f m h .current) e
+
+  -- the group of the slot, and the group of the parity, with one member taken out
+  partial-one : (m : ℕ) → m < N → bit r m ≡ true
+      → z (r .slot) ≡ gathered l y j (othersInside l m r) ⊕ bytesAt l y (memberChip l j m) (r .current m)
+  partial-one m h t =
+      d .partial (bit-slot l w r f m t)
+      ∙ gathered-one l y j (othersInside l m r) (currentInside l r) m h (others-inside-here l m r) (λ k b. others-inside-other l m r k)
+      ∙ ap (λ p. gathered l y j (othersInside l m r) ⊕ bytesAt l y (memberChip l j m) p) (inside-set l m r t)
+
+  parity-one : (m : ℕ) → m < N → bit r m ≡ false
+      → bytesAt l y (parityChip l j) (r .parity) ≡ gathered l y j (othersUnderParity l m r) ⊕ bytesAt l y (memberChip l j m) (r .current m)
+  parity-one m h t =
+      d .parity
+      ∙ gathered-one l y j (othersUnderParity l m r) (underParity l r) m h (under-parity-here l m r t) (λ k b. under-parity-other l m r k)
+      ∙ ap (λ p. gathered l y j (othersUnderParity l m r) ⊕ bytesAt l y (memberChip l j m) p) (under-parity-clear l m r t)
+
+  -- the group without a member gives the bytes of that member
+  pub rebuilt-inside : (m : ℕ) → m < N → bit r m ≡ true
+      → z (r .slot) ⊕ gathered l y j (othersInside l m r) ≡ y (memberChip l j m) (r .current m) .bytes
+  rebuilt-inside m h t =
+      let page = sound-member l w r f m h .current-under-bit t .0 in
+      cancel-rest (z (r .slot)) (gathered l y j (othersInside l m r)) (bytesAt l y (memberChip l j m) (r .current m)) (partial-one m h t)
+      (omega (arith, page-whole m h page, length-gathered l y j whole (othersInside l m r) (numbered-others-inside l w r f m)))
+      ∙ bytes-page l y (memberChip l j m) (r .current m) page
+
+  pub rebuilt-outside : (m : ℕ) → m < N → bit r m ≡ false → r .current m ≢ none l
+      → bytesAt l y (parityChip l j) (r .parity) ⊕ gathered l y j (othersUnderParity l m r) ≡ y (memberChip l j m) (r .current m) .bytes
+  rebuilt-outside m h t page =
+      cancel-rest (bytesAt l y (parityChip l j) (r .parity)) (gathered l y j (othersUnderParity l m r)) (bytesAt l y (memberChip l j m) (r .current m))
+      (parity-one m h t)
+      (omega (arith, page-whole m h page, length-gathered l y j whole (othersUnderParity l m r) (numbered-others-under-parity l w r f m)))
+      ∙ bytes-page l y (memberChip l j m) (r .current m) page
+
+  -- ---- write
+
+  no-others : (m : ℕ) → hasSlot r ≡ false → (k : ℕ) → othersInside l m r k ≡ none l
+  unfolding othersInside
+  no-others m s k = rw (no-slot-no-bit l w r f s k)
+
+  after-write : (m p i : ℕ) (xs : List ℕ) → m < N → p ≢ none l → y (memberChip l j m) p .bytes ≡ xs
+      → gathered l y j (currentInside l (written l m p i r)) ≡ gathered l y j (othersInside l m r) ⊕ xs
+  after-write m p i xs h page e =
+      gathered-one l y j (othersInside l m r) (currentInside l (written l m p i r)) m h (others-inside-here l m r) (λ k b. written-inside-other l m p i r k)
+      ∙ ap (λ q. gathered l y j (othersInside l m r) ⊕ bytesAt l y (memberChip l j m) q) (written-inside l m p i r)
+      ∙ ap (λ q. gathered l y j (othersInside l m r) ⊕ q) (bytes-page l y (memberChip l j m) p page ∙ e)
+
+  -- the partial of a write is the data and the other pages of the bitmap
+  partial-written : (m : ℕ) (xs : List ℕ) → m < N → length xs ≡ W
+      → newPartial l y z j m xs r ≡ gathered l y j (othersInside l m r) ⊕ xs
+  unfolding newPartial
+  partial-written m xs h long =
+      by-test (hasSlot r)
+      (λ s. by-test (bit r m)
+      (λ t. rw (s, t, partial-one m h t)
+      (cancel-inside (gathered l y j (othersInside l m r)) (bytesAt l y (memberChip l j m) (r .current m)) xs
+      (omega (arith, page-whole m h (sound-member l w r f m h .current-under-bit t .0)))))
+      (λ t. rw (s, t, d .partial s, gathered-same l y j (othersInside l m r) (currentInside l r) (λ k b. others-inside-clear l m r t k))))
+      (λ s. rw (s, gathered-none l y j (othersInside l m r) (λ k b. no-others m s k)) (sym (xor-nil-l xs)))
+
+  -- after the write both groups are right
+  pub write-data : (m p i : ℕ) (xs : List ℕ) → m < N → p ≢ none l → y (memberChip l j m) p .bytes ≡ xs → length xs ≡ W → (z′ : ℕ → List ℕ)
+      → z′ i ≡ newPartial l y z j m xs r → StripeData l y z′ j (written l m p i r)
+  unfolding written
+  write-data m p i xs h page e long z′ q = record {
+    partial = λ t. q ∙ partial-written m xs h long ∙ sym (after-write m p i xs h page e);
+    parity = d .parity ∙ sym (gathered-same l y j (underParity l r) (underParity l (written l m p i r)) (λ k b. written-under-parity l m p i r k));
+  }
+
+  -- ---- commit
+
+  partial-whole : hasSlot r ≡ true → length (z (r .slot)) ≡ W
+  partial-whole s =
+      let (m, h, t) = some-bit l r f s in
+      ap length (d .partial s)
+      ∙ gathered-whole l y j whole (currentInside l r) (numbered-inside l w r f) m h
+      (rw (inside-set l m r t) (sound-member l w r f m h .current-under-bit t .0))
+
+  -- both formulas give the XOR of all current pages
+  new-parity-is : hasSlot r ≡ true → newParity l y z j r ≡ gathered l y j (r .current)
+  unfolding newParity
+  new-parity-is s =
+      let all = ap (λ x. x ⊕ gathered l y j (currentOutside l r)) (d .partial s) ∙ inside-outside l y j r in
+      by-test (mostInPartial l (setBits l r))
+      (λ t. rw t all)
+      (λ t. rw (t, d .parity, ← old-outside l y j r)
+      (cancel-around (z (r .slot)) (gathered l y j (oldInside l r)) (gathered l y j (currentOutside l r))
+      (omega (arith, partial-whole s, length-gathered l y j whole (oldInside l r) (numbered-old l w r f)))
+      ∙ all))
+
+  -- after the commit both groups are right
+  pub commit-data : (p : ℕ) → p ≢ none l → hasSlot r ≡ true → (y′ : ℕ → ℕ → Page)
+      → y′ (parityChip l j) p .bytes ≡ newParity l y z j r
+      → ((m : ℕ) → m < N → bytesAt l y′ (memberChip l j m) (r .current m) ≡ bytesAt l y (memberChip l j m) (r .current m))
+      → (z′ : ℕ → List ℕ) → StripeData l y′ z′ j (committed l p r)
+  unfolding committed
+  commit-data p page s y′ e same z′ = record {
+    partial = λ t. both false t refl;
+    parity =
+        bytes-page l y′ (parityChip l j) p page
+        ∙ e
+        ∙ new-parity-is s
+        ∙ sym
+        (gathered-cong l y y′ j (r .current) (underParity l (committed l p r))
+        (λ m h. ap (bytesAt l y′ (memberChip l j m)) (committed-under-parity l p r m) ∙ same m h));
+  }

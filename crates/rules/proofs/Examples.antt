@@ -1,0 +1,5 @@
+-- The worked examples of document 01.
+pub mod Compute
+pub mod FirstWrite
+pub mod Rows
+pub mod Turned

@@ -1,0 +1,6 @@
+-- "Sound images": the statements, the tests that say the same, and what a call that passes them may rely on.
+pub mod Accepted
+pub mod Checks
+pub mod ChipChecks
+pub mod RecordChecks
+pub mod Statements

@@ -1,0 +1,3 @@
+-- Where there is room.
+pub mod Places
+pub mod Room
