@@ -35,23 +35,23 @@ use Rattle.rules.specs.Write.{commitOwed, lowestFreeSlot, writeSteps}
 use Rattle.rules.specs.Read.{fetch}
 use Rattle.rules.specs.Calls.{ReadOutcome, run, outcome, readCall, writeCall}
 use Rattle.rules.specs.Book.{Verdict, done, cut, refused, verdict}
-use Rattle.rules.proofs.Lists.Fresh.{formatted, rank}
+use Rattle.rules.specs.Demand.{Demand3}
 use Rattle.rules.proofs.Soundness.Statements.{Usable, RecordsSound, ChipSound, SoundBut, Sound, sound-chip}
 use Rattle.rules.proofs.Soundness.Checks.{lengths-are, images-sound, lengths-pass, records-check-pass, spares-check-pass}
 use Rattle.rules.proofs.Soundness.Accepted.{open-accepted, read-passes, WriteAccepted, write-accepted, write-passes, commit-accepted, collect-accepted}
-use Rattle.rules.proofs.Space.Room.{victim-found, free-slot, stripe-to-commit}
-use Rattle.rules.proofs.Lists.Collecting.{still, collect-leads}
-use Rattle.rules.proofs.Lists.EachCall.{open-lost, open-every, collect-every, commit-every, write-ends, write-every}
-use Rattle.rules.proofs.Demand.Invariant.{no-copies}
-use Rattle.rules.proofs.Lists.CutRule.{CutRules, cut-rules}
-use Rattle.rules.specs.Demand.{Demand3}
-use Rattle.rules.proofs.Demand.Events.{demand-3}
 use Rattle.rules.proofs.Soundness.RecordChecks.{records-sound, records-pass}
 use Rattle.rules.proofs.Soundness.ChipChecks.{chip-sound, chip-pass}
-use Rattle.rules.proofs.Lists.FreshSound.{fresh-sound}
 use Rattle.rules.proofs.Data.Carries.{Wrote}
+use Rattle.rules.proofs.Space.Room.{victim-found, free-slot, stripe-to-commit}
+use Rattle.rules.proofs.Lists.Fresh.{formatted, rank}
+use Rattle.rules.proofs.Lists.Collecting.{still, collect-leads}
+use Rattle.rules.proofs.Lists.EachCall.{open-lost, open-every, collect-every, commit-every, write-ends, write-every}
+use Rattle.rules.proofs.Lists.CutRule.{CutRules, cut-rules}
+use Rattle.rules.proofs.Lists.FreshSound.{fresh-sound}
 use Rattle.rules.proofs.Lists.Committing.{Committed, commit-closes}
 use Rattle.rules.proofs.Lists.Writing.{write-closes}
+use Rattle.rules.proofs.Demand.Invariant.{no-copies}
+use Rattle.rules.proofs.Demand.Events.{demand-3}
 
 module _ (l : Layout) where
   open Layout l using (N, W, S)

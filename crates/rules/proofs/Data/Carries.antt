@@ -21,9 +21,9 @@ use Rattle.rules.specs.Commit.{currentOutside, oldInside, newParity}
 use Rattle.rules.specs.Read.{Fetched, fetch}
 use Rattle.rules.proofs.Soundness.Statements.{Usable, Sound}
 use Rattle.rules.proofs.Stores.Names.{main-member, side-member, main-parity}
+use Rattle.rules.proofs.Stores.Kept.{CopiesOf, Same, Kept}
 use Rattle.rules.proofs.Data.Contents.{currentInside, underParity, StripeData, Data, bytes-none, bytes-page, gathered-cong}
 use Rattle.rules.proofs.Data.Rebuild.{fetch-unwritten, fetch-direct}
-use Rattle.rules.proofs.Stores.Kept.{CopiesOf, Same, Kept}
 
 module _ (l : Layout) where
   open Layout l using (N, S)

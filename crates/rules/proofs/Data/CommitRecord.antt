@@ -21,13 +21,13 @@ use Rattle.layout.proofs.Pages.{page-number}
 use Rattle.stores.specs.Store.{stripe, apply}
 use Rattle.rules.specs.Commit.{newParity, committed}
 use Rattle.rules.proofs.Soundness.Statements.{Usable, RecordSound, Sound}
+use Rattle.rules.proofs.Stores.Kept.{CopiesOf, Kept}
+use Rattle.rules.proofs.Stores.Storing.{stripe-view, stripe-collection, sound-stripe}
 use Rattle.rules.proofs.Data.Contents.{StripeData, Data, pages-whole}
 use Rattle.rules.proofs.Data.Parity.{commit-data}
-use Rattle.rules.proofs.Stores.Kept.{CopiesOf, Kept}
 use Rattle.rules.proofs.Data.Carries.{Carries, kept-carries, new-parity-kept}
 use Rattle.rules.proofs.Data.Entries.{committed-six, committed-sound, committed-main, committed-side}
 use Rattle.rules.proofs.Data.NewRecord.{NewPage, main-tagged, side-tagged, stored-here, stored-other, stored-copies, stored-data, stored-read}
-use Rattle.rules.proofs.Stores.Storing.{stripe-view, stripe-collection, sound-stripe}
 
 module _ (l : Layout) (u : Usable l) where
   open Layout l using (S)

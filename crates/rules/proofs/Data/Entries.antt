@@ -27,9 +27,9 @@ use Rattle.rules.specs.Commit.{setBits, mostInPartial, currentOutside, o
 use Rattle.rules.specs.Write.{newPartial, written}
 use Rattle.rules.proofs.Soundness.Statements.{Numbered, MemberSound, RecordSound, Tagged, Sound, sound-member}
 use Rattle.rules.proofs.Stores.Names.{main-member, side-member, main-parity, side-parity, by-chip}
+use Rattle.rules.proofs.Stores.Stays.{stays-same, member-same}
 use Rattle.rules.proofs.Data.Contents.{underParity, numbered-none, numbered-cond, length-bytes-most, length-gathered, pages-whole, slot-whole, slot-bits}
 use Rattle.rules.proofs.Data.Parity.{written-bit, written-bit-other, written-current, written-current-other, written-old, written-old-other}
-use Rattle.rules.proofs.Stores.Stays.{stays-same, member-same}
 
 module _ (l : Layout) where
   open Layout l using (N, W, S, M)

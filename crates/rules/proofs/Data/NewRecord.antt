@@ -18,11 +18,11 @@ use Rattle.stores.specs.Store.{stripe, apply}
 use Rattle.rules.specs.Names.{mainNumber, sideNumber, named}
 use Rattle.rules.specs.Read.{fetch}
 use Rattle.rules.proofs.Soundness.Statements.{Usable, RecordSound, Tagged, Sound, sound-chip}
-use Rattle.rules.proofs.Data.Contents.{StripeData, Data}
 use Rattle.rules.proofs.Stores.Kept.{CopiesOf, no-copies-yet}
+use Rattle.rules.proofs.Stores.Storing.{stripe-view, stripe-collection}
+use Rattle.rules.proofs.Data.Contents.{StripeData, Data}
 use Rattle.rules.proofs.Data.Carries.{same-read}
 use Rattle.rules.proofs.Data.Entries.{TaggedBy}
-use Rattle.rules.proofs.Stores.Storing.{stripe-view, stripe-collection}
 
 module _ (l : Layout) where
   -- the new page of stripe j on chip c: it is whole, tagged, and no record names it yet

@@ -28,14 +28,14 @@ use Rattle.rules.specs.Write.{newPartial, written}
 use Rattle.rules.specs.Read.{Fetched, fetch}
 use Rattle.rules.proofs.Soundness.Statements.{Usable, RecordSound, Sound}
 use Rattle.rules.proofs.Stores.Names.{main-member, side-member, unnamed-at}
+use Rattle.rules.proofs.Stores.Kept.{Kept}
+use Rattle.rules.proofs.Stores.Storing.{sound-stripe}
 use Rattle.rules.proofs.Data.Contents.{underParity, StripeData, Data, pages-whole}
 use Rattle.rules.proofs.Data.Parity.{written-current, written-current-other, write-data}
 use Rattle.rules.proofs.Data.Rebuild.{fetch-direct}
-use Rattle.rules.proofs.Stores.Kept.{Kept}
 use Rattle.rules.proofs.Data.Carries.{Wrote, kept-carries}
 use Rattle.rules.proofs.Data.Entries.{written-six, written-sound, written-main, written-side}
 use Rattle.rules.proofs.Data.NewRecord.{NewPage, main-tagged, side-tagged, stored-chips, stored-here, stored-other, stored-copies, stored-data, stored-read}
-use Rattle.rules.proofs.Stores.Storing.{sound-stripe}
 
 module _ (l : Layout) (u : Usable l) where
   open Layout l using (N, W, S, M)

@@ -9,8 +9,8 @@ use Rattle.layout.specs.Images.{Images}
 use Rattle.layout.proofs.Limits.{within}
 use Rattle.rules.specs.Book.{Call, lostChip}
 use Rattle.rules.specs.Demand.{World, called, calledAll, chipTaken, allName, ReadsTheBook, Finished, start, Demand3}
-use Rattle.rules.proofs.Lists.Fresh.{format-fresh}
 use Rattle.rules.proofs.Soundness.Statements.{Usable}
+use Rattle.rules.proofs.Lists.Fresh.{format-fresh}
 use Rattle.rules.proofs.Demand.Invariant.{Inv, fresh-inv, reads-book}
 use Rattle.rules.proofs.Demand.Alive.{call-inv}
 use Rattle.rules.proofs.Demand.Taken.{Taken, take-chip, taken-trans, taken-reads, call-stays}

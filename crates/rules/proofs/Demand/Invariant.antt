@@ -5,15 +5,15 @@ use mathlib.Core.Path.{_≡_, sym, ap, _∙_}
 use mathlib.Core.Bool.{true, true≢false}
 use mathlib.Core.List.{List}
 use lib.ListN.{length}
-use borrow.Author.Tests.{eqb-true, eqb-false}
 use lib.Dec.{eqb}
+use borrow.Author.Tests.{eqb-true, eqb-false}
 use Rattle.units.specs.Update.{at}
 use Rattle.units.proofs.Looks.{by-test}
 use Rattle.units.proofs.Updates.{at-same, at-other}
 use Rattle.layout.specs.Layout.{Layout, noChip, none}
 use Rattle.layout.specs.Rotation.{parityChip, memberOf, stripeOf}
 use Rattle.layout.specs.Page.{pageAt}
-use Rattle.layout.specs.Record.{Record, bit, emptyRecord}
+use Rattle.layout.specs.Record.{Record, bit, emptyRecord, recordAt}
 use Rattle.layout.specs.Collection.{Collection, collectionAt}
 use Rattle.layout.specs.Images.{Images}
 use Rattle.layout.proofs.Rotations.{stripe-fits}
@@ -23,13 +23,13 @@ use Rattle.rules.specs.Refusals.{lostNamed}
 use Rattle.rules.specs.Read.{Fetched, fetch}
 use Rattle.rules.specs.Calls.{ReadOutcome, readCall}
 use Rattle.rules.specs.Book.{Book, finished}
-use Rattle.rules.proofs.Lists.Fresh.{Fresh}
 use Rattle.rules.proofs.Soundness.Statements.{Usable, SoundBut, Sound}
 use Rattle.rules.proofs.Soundness.Accepted.{read-passes}
+use Rattle.rules.proofs.Stores.Kept.{CopiesOf, no-copies-yet}
 use Rattle.rules.proofs.Data.Contents.{Data, bytes-none, gathered-none, underParity}
 use Rattle.rules.proofs.Data.Rebuild.{fetch-unwritten, fetch-rebuilt}
-use Rattle.rules.proofs.Stores.Kept.{CopiesOf}
 use Rattle.rules.proofs.Data.Carries.{Carries, Wrote}
+use Rattle.rules.proofs.Lists.Fresh.{Fresh}
 use Rattle.rules.proofs.Lists.FreshSound.{fresh-sound}
 
 module _ (l : Layout) where
@@ -65,7 +65,8 @@ module _ (l : Layout) where
 
   -- at rest no copy is due
   pub no-copies : (s : Images) → collectionAt l (s .records) .phase ≡ 0 → CopiesOf l s
-  no-copies s e = record { bytes = λ two. absurd (omega arith); ranks = λ two. absurd (omega arith) }
+  no-copies s e =
+      no-copies-yet l (recordAt l (s .records)) (pageAt l (s .chips) (collectionAt l (s .records) .chip)) (collectionAt l (s .records)) (λ two. absurd (omega arith))
 
   module _ (u : Usable l) where
     -- what a finished format leaves

@@ -30,10 +30,10 @@ use Rattle.rules.specs.declared.Answer.the-variants.{Done, Cut}
 use Rattle.rules.specs.Calls.{ReadOutcome, run, formatCall, writeCall, readCall}
 use Rattle.rules.specs.Book.{verdict, done}
 use Rattle.rules.proofs.Soundness.Statements.{Usable, Sound}
-use Rattle.rules.proofs.Lists.Fresh.{Fresh, format-fresh}
-use Rattle.rules.proofs.Lists.FreshSound.{fresh-sound}
 use Rattle.rules.proofs.Soundness.Accepted.{WriteAccepted, write-passes, read-passes}
 use Rattle.rules.proofs.Space.Places.{place-fresh}
+use Rattle.rules.proofs.Lists.Fresh.{Fresh, format-fresh}
+use Rattle.rules.proofs.Lists.FreshSound.{fresh-sound}
 use Rattle.rules.proofs.Lists.EachCall.{write-every}
 
 module _ (l : Layout) where

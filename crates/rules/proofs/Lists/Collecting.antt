@@ -25,10 +25,10 @@ use Rattle.rules.specs.Open.{finishSteps}
 use Rattle.rules.specs.Place.{placeOf, atPlace, placed}
 use Rattle.rules.proofs.Soundness.Statements.{Usable, ChipSound, Sound, sound-chip}
 use Rattle.rules.proofs.Stores.Kept.{Kept, kept-refl, kept-trans}
+use Rattle.rules.proofs.Stores.Chips.{wiped-clean, wiped-other}
+use Rattle.rules.proofs.Space.Room.{PlaceAt, place-at, place-found, victim-found}
 use Rattle.rules.proofs.Lists.Finish.{Ended, finish-leads}
 use Rattle.rules.proofs.Lists.Copying.{Chosen, AllCopied, copies-lead, blocks-differ}
-use Rattle.rules.proofs.Space.Room.{PlaceAt, place-at, place-found, victim-found}
-use Rattle.rules.proofs.Stores.Chips.{wiped-clean, wiped-other}
 
 module _ (l : Layout) where
   -- the collection record is idle, and chip c has a place

@@ -15,20 +15,20 @@ use Rattle.layout.specs.Images.{Images, slotAt}
 use Rattle.layout.proofs.Codec.{PageFits}
 use Rattle.layout.proofs.Rotations.{parity-chip-fits}
 use Rattle.layout.proofs.Records.{same-slotted}
+use Rattle.layout.proofs.Pages.{none-fits}
 use Rattle.stores.specs.Store.{program, stripe, apply}
 use Rattle.stores.specs.Steps.{plain}
 use Rattle.stores.proofs.Prefixes.{Closes, closes-two}
 use Rattle.rules.specs.Commit.{newParity, newParityReads, parityPage, committed, commitAt, commitSteps}
 use Rattle.rules.proofs.Soundness.Statements.{Usable, Sound}
 use Rattle.rules.proofs.Stores.Names.{kind-parity, tag-parity}
-use Rattle.layout.proofs.Pages.{none-fits}
 use Rattle.rules.proofs.Stores.Kept.{Kept, kept-refl, kept-trans}
 use Rattle.rules.proofs.Data.Carries.{Carries, carries-trans, kept-carries}
-use Rattle.rules.proofs.Space.Room.{PlaceAt}
-use Rattle.rules.proofs.Lists.Filling.{fill-kept, fill-new}
 use Rattle.rules.proofs.Data.NewRecord.{NewPage}
 use Rattle.rules.proofs.Data.CommitRecord.{commit-carries, commit-collection, commit-frees, commit-others}
 use Rattle.rules.proofs.Data.Entries.{new-parity-length}
+use Rattle.rules.proofs.Space.Room.{PlaceAt}
+use Rattle.rules.proofs.Lists.Filling.{fill-kept, fill-new}
 use Rattle.rules.proofs.Lists.Collecting.{placed-closes}
 
 module _ (l : Layout) where

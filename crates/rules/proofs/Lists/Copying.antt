@@ -19,6 +19,7 @@ use Rattle.layout.specs.Collection.{Collection, collectionAt}
 use Rattle.layout.specs.Images.{Images}
 use Rattle.layout.proofs.Codec.{PageFits}
 use Rattle.layout.proofs.Pages.{page-in-fits, same-place, in-own-block, in-other-block, page-number}
+use Rattle.layout.proofs.Pages.{none-fits}
 use Rattle.stores.specs.Store.{program, collection, apply}
 use Rattle.stores.specs.Steps.{plain, stepsBelow, applyAll}
 use Rattle.stores.proofs.Prefixes.{Leads, leads-nil, leads-one, leads-cons, leads-append, leads-below}
@@ -28,12 +29,11 @@ use Rattle.rules.specs.Sound.{collecting, twinIn}
 use Rattle.rules.specs.Collect.{phase, copyOf, copyFrom, copySteps}
 use Rattle.rules.proofs.Soundness.Statements.{Usable, CollectionSound, ChipSound, OneTwin, Sound, sound-chip}
 use Rattle.rules.proofs.Stores.Names.{named-by, name-tagged, named-used, clean-block-unnamed}
-use Rattle.rules.proofs.Data.Contents.{pages-whole}
-use Rattle.layout.proofs.Pages.{none-fits}
 use Rattle.rules.proofs.Stores.Kept.{Copies, Kept, kept-refl, kept-trans, Fillable, no-copies-yet}
 use Rattle.rules.proofs.Stores.Twins.{twin-is, is-twin}
-use Rattle.rules.proofs.Space.Places.{clean-at}
 use Rattle.rules.proofs.Stores.Storing.{kept-program, kept-collection, program-view, collection-view, collection-records}
+use Rattle.rules.proofs.Data.Contents.{pages-whole}
+use Rattle.rules.proofs.Space.Places.{clean-at}
 
 module _ (l : Layout) where
   open Layout l using (N, K, B)

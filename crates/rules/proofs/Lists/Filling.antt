@@ -18,9 +18,9 @@ use Rattle.rules.specs.Names.{kindOn, memberTag, named}
 use Rattle.rules.proofs.Soundness.Statements.{Usable, Sound, sound-chip}
 use Rattle.rules.proofs.Stores.Names.{clean-unnamed}
 use Rattle.rules.proofs.Stores.Kept.{Kept}
-use Rattle.rules.proofs.Space.Room.{PlaceAt}
-use Rattle.rules.proofs.Data.NewRecord.{NewPage}
 use Rattle.rules.proofs.Stores.Storing.{kept-program, program-view}
+use Rattle.rules.proofs.Data.NewRecord.{NewPage}
+use Rattle.rules.proofs.Space.Room.{PlaceAt}
 
 module _ (l : Layout) (u : Usable l) (t : Images) (g : Sound l t) (rest : collectionAt l (t .records) .phase ≡ 0)
     (c : ℕ) (chip : c < l .N + 1) (p : ℕ) (o : PlaceAt l (pageAt l (t .chips) c) p)

@@ -23,8 +23,8 @@ use Rattle.rules.specs.Open.{ending, due, moveStep, moveFrom, moveSteps,
 use Rattle.rules.proofs.Soundness.Statements.{Usable, CollectionSound, ChipSound, Sound, sound-chip}
 use Rattle.rules.proofs.Stores.Kept.{Kept, kept-refl, kept-trans}
 use Rattle.rules.proofs.Stores.Moves.{kept-move, move-collection, move-to, move-from, move-other}
-use Rattle.rules.proofs.Lists.Ending.{BlockErased, ending-leads}
 use Rattle.rules.proofs.Stores.Twins.{dueAt, twin-is, due-is, is-due, due-before}
+use Rattle.rules.proofs.Lists.Ending.{BlockErased, ending-leads}
 
 module _ (l : Layout) where
   -- what the moves before place i have left of the images s

@@ -26,10 +26,10 @@ use Rattle.stores.proofs.View.{erasedPage, wiped, page-erased, length-erased, l
 use Rattle.rules.specs.Refusals.{formatCheck}
 use Rattle.rules.specs.Calls.{Outcome, formatCall}
 use Rattle.rules.specs.Book.{Verdict, verdict, done, cut, refused}
+use Rattle.rules.specs.Format.{eraseBlock, eraseChip, emptyStripe, formatSteps}
 use Rattle.rules.proofs.Soundness.Checks.{lengths-are}
 use Rattle.rules.proofs.Soundness.Accepted.{by-check, format-accepted}
 use Rattle.rules.proofs.Lists.CutRule.{cut-rules}
-use Rattle.rules.specs.Format.{eraseBlock, eraseChip, emptyStripe, formatSteps}
 
 module _ (l : Layout) where
   open Layout l using (N, W, K, B, S, M, D)

@@ -22,6 +22,7 @@ use Rattle.layout.specs.Images.{Images, slotAt}
 use Rattle.layout.proofs.Codec.{PageFits}
 use Rattle.layout.proofs.Rotations.{member-chip-fits, stripe-fits, member-fits}
 use Rattle.layout.proofs.Records.{same-slotted}
+use Rattle.layout.proofs.Pages.{none-fits}
 use Rattle.stores.specs.Store.{program, slot, stripe, apply}
 use Rattle.stores.specs.Steps.{plain}
 use Rattle.stores.proofs.Prefixes.{Leads, leads-nil, leads-one, Closes, closes-two, closes-then, closes-leads, closes-weaken}
@@ -30,17 +31,16 @@ use Rattle.rules.specs.Commit.{commitSteps}
 use Rattle.rules.specs.Place.{placed}
 use Rattle.rules.proofs.Soundness.Statements.{Usable, Sound}
 use Rattle.rules.proofs.Stores.Names.{kind-member, tag-member}
-use Rattle.layout.proofs.Pages.{none-fits}
 use Rattle.rules.proofs.Stores.Kept.{Kept, kept-refl, kept-trans}
+use Rattle.rules.proofs.Stores.Storing.{kept-slot, slot-view}
 use Rattle.rules.proofs.Data.Carries.{Carries, Wrote, carries-refl, carries-trans, carries-wrote, kept-carries}
-use Rattle.rules.proofs.Space.Room.{PlaceAt, free-slot, stripe-to-commit}
-use Rattle.rules.proofs.Lists.Filling.{fill-kept, fill-new}
 use Rattle.rules.proofs.Data.NewRecord.{NewPage}
 use Rattle.rules.proofs.Data.WriteRecord.{write-wrote}
 use Rattle.rules.proofs.Data.Entries.{new-partial-length}
+use Rattle.rules.proofs.Space.Room.{PlaceAt, free-slot, stripe-to-commit}
+use Rattle.rules.proofs.Lists.Filling.{fill-kept, fill-new}
 use Rattle.rules.proofs.Lists.Collecting.{placed-closes}
 use Rattle.rules.proofs.Lists.Committing.{Committed, kept-count, commit-closes}
-use Rattle.rules.proofs.Stores.Storing.{kept-slot, slot-view}
 
 module _ (l : Layout) where
   open Layout l using (S, M)

@@ -32,11 +32,15 @@ module _ (l : Layout) where
 
   -- what a record says of member m
   pub record MemberSound (r : Record) (m : ℕ) : Type 0 where
+    -- "page numbers are none or below B × K, and none for members N and above"
     pub current : Numbered (r .current m)
     pub old : Numbered (r .old m)
     pub beyond : N ≤ m → (r .current m ≡ none l) × (r .old m ≡ none l)
+    -- "an old number only where the bit is set"
     pub old-under-bit : r .old m ≢ none l → bit r m ≡ true
+    -- "a set bit has a current number, different from the old one"
     pub current-under-bit : bit r m ≡ true → (r .current m ≢ none l) × (r .current m ≢ r .old m)
+    -- "an old number, or a current one with its bit clear, needs a parity page"
     pub parity-under-old : r .old m ≢ none l → r .parity ≢ none l
     pub parity-under-current : r .current m ≢ none l → bit r m ≡ false → r .parity ≢ none l
 
@@ -44,16 +48,22 @@ module _ (l : Layout) where
   pub record RecordSound (r : Record) : Type 0 where
     pub member : (m : ℕ) → m < 6 → MemberSound r m
     pub parity : Numbered (r .parity)
+    -- "bitmap bits only below N"
     pub bitmap : r .bitmap < 2 ^ N
+    -- "slot none exactly when the bitmap is 0, else at most M"
     pub no-slot : r .bitmap ≡ 0 → r .slot ≡ noSlot
     pub slot : r .bitmap ≢ 0 → r .slot ≤ M
+    -- "the last four bytes are 0"
     pub rest : r .rest ≡ 0
 
   -- the collection record
   pub record CollectionSound (co : Collection) : Type 0 where
+    -- "then zeros; in phase 0 all zero"
     pub rest : co .rest ≡ 0
     pub at-rest : co .phase ≡ 0 → (co .chip ≡ 0) × (co .victim ≡ 0) × (co .destination ≡ 0)
+    -- "phase (0, 1, 2)"
     pub phases : co .phase ≤ 2
+    -- "outside phase 0, chip at most N, both blocks below B and different"
     pub chip : co .phase ≢ 0 → co .chip ≤ N
     pub victim : co .phase ≢ 0 → co .victim < B
     pub destination : co .phase ≢ 0 → co .destination < B
@@ -62,7 +72,9 @@ module _ (l : Layout) where
   -- all records
   pub record RecordsSound (r : ℕ → Record) (co : Collection) : Type 0 where
     pub stripe : (j : ℕ) → j < S → RecordSound (r j)
+    -- "no slot in two records"
     pub own : (i j : ℕ) → i < j → j < S → slotted r j ≡ true → r i .slot ≢ r j .slot
+    -- "at most M records with a slot"
     pub few : countBelow S (slotted r) ≤ M
     pub collection : CollectionSound co
 
@@ -81,11 +93,16 @@ module _ (l : Layout) where
 
   -- one chip c, with its pages x
   pub record ChipSound (r : ℕ → Record) (x : ℕ → Page) (c : ℕ) (co : Collection) : Type 0 where
+    -- "each page a record names has that stripe, kind and member"
     pub main : (j : ℕ) → j < S → mainNumber l c j (r j) ≢ none l → Tagged x c j (mainNumber l c j (r j))
     pub side : (j : ℕ) → j < S → sideNumber l c j (r j) ≢ none l → Tagged x c j (sideNumber l c j (r j))
+    -- "no used page follows a clean one in a block"
     pub order : (b i : ℕ) → b < B → i + 1 < K → cleanIn l x b i ≡ true → cleanIn l x b (i + 1) ≡ true
+    -- "some block is wholly clean, unless a collection is in phase 1 or 2 on that chip"
     pub spare : collecting co c ≡ false → (b : ℕ) × (b < B) × (cleanBlock l x b ≡ true)
+    -- "Phase 1: no record names a page of the destination."
     pub phase-1 : co .phase ≡ 1 → co .chip ≡ c → (i : ℕ) → i < K → named l r c (pageIn l (co .destination) i) ≡ false
+    -- "Phase 2: each page named in the victim has exactly one page in the destination with the same .."
     pub phase-2 : co .phase ≡ 2 → co .chip ≡ c → (i : ℕ) → i < K → named l r c (pageIn l (co .victim) i) ≡ true
         → OneTwin r x c (co .destination) (pageIn l (co .victim) i)
 

@@ -19,12 +19,12 @@ use Rattle.layout.specs.Collection.{Collection}
 use Rattle.layout.proofs.Codec.{RecordFits, CollectionFits}
 use Rattle.layout.proofs.Records.{SixMembers}
 use Rattle.layout.proofs.Pages.{same-place, in-own-block, in-other-block, place-in}
+use Rattle.layout.proofs.Pages.{none-fits}
 use Rattle.stores.proofs.View.{wiped, erased-clean}
 use Rattle.rules.specs.Names.{mainNumber, sideNumber, names, named}
 use Rattle.rules.specs.Blocks.{cleanIn, cleanBlock}
 use Rattle.rules.specs.Sound.{collecting}
 use Rattle.rules.proofs.Soundness.Statements.{Usable, Numbered, RecordSound, CollectionSound, RecordsSound, Tagged, OneTwin, ChipSound}
-use Rattle.layout.proofs.Pages.{none-fits}
 use Rattle.rules.proofs.Stores.Names.{main-names, side-names, name-named, name-tagged, named-used}
 
 module _ (l : Layout) where

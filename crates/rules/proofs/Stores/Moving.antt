@@ -21,9 +21,9 @@ use Rattle.rules.specs.Blocks.{namedIn, unnamedIn}
 use Rattle.rules.specs.Sound.{twin, twinIn, collecting}
 use Rattle.rules.specs.Open.{moved, repointed, due}
 use Rattle.rules.specs.Gather.{bytesAt}
+use Rattle.rules.proofs.Soundness.Statements.{RecordSound, RecordsSound, Tagged, OneTwin, ChipSound}
 use Rattle.rules.proofs.Stores.Kept.{Copies, Same, same-number}
 use Rattle.rules.proofs.Stores.Names.{by-name, main-names, side-names, not-names, named-by, name-named, unnamed-at, named-none, name-tagged, one-stripe}
-use Rattle.rules.proofs.Soundness.Statements.{RecordSound, RecordsSound, Tagged, OneTwin, ChipSound}
 use Rattle.rules.proofs.Stores.Twins.{IsTwin, twin-is, due-is}
 use Rattle.rules.proofs.Stores.Repoint.{moved-here, moved-other, by-moved, repointed-bitmap, repointed-slot, repointed-main, repointed-side, repointed-other}
 use Rattle.rules.proofs.Stores.Repoint.{repointed-beyond, repointed-sound}
