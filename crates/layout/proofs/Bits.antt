@@ -75,9 +75,3 @@ pub nonzero-has-bit : (n b : ℕ) → b < 2 ^ n → b ≢ 0 → (m : ℕ) × (m 
 nonzero-has-bit zero b h k = absurd (omega arith)
 nonzero-has-bit (suc n) b h k =
     find-bit n b k (nonzero-has-bit n (b / 2) (omega (arith, pow-suc 2 n))) (testBit b 0) refl
-
-pub zero-of-bits : (n b : ℕ) → b < 2 ^ n → ((m : ℕ) → m < n → testBit b m ≡ false) → b ≡ 0
-zero-of-bits n zero h f = refl
-zero-of-bits n (suc b) h f =
-    let r = nonzero-has-bit n (suc b) h (omega arith) in
-    absurd (true≢false (sym (r .2) ∙ f (r .0) (r .1)))

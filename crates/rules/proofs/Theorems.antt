@@ -13,6 +13,7 @@ use Rattle.units.specs.declared.Found.the-variants.{At, Nothing}
 use Rattle.units.proofs.Looks.{by-test}
 use Rattle.layout.specs.declared.Geometry.{Geometry}
 use Rattle.layout.specs.Layout.{Layout, layoutOf, noChip, limits}
+use Rattle.layout.specs.Rotation.{stripeOf}
 use Rattle.layout.specs.Page.{Page, pageAt}
 use Rattle.layout.specs.Record.{Record, hasSlot, recordAt}
 use Rattle.layout.specs.Collection.{Collection, collectionAt}
@@ -20,10 +21,11 @@ use Rattle.layout.specs.Images.{Images, lengths}
 use Rattle.layout.proofs.Limits.{Within, within}
 use Rattle.stores.specs.declared.Counts.{Counts}
 use Rattle.stores.specs.Steps.{made, isCut, applyAll}
-use Rattle.stores.proofs.Prefixes.{Every, every-nil}
+use Rattle.stores.proofs.Prefixes.{EndsIn, Every, every-nil}
 use Rattle.rules.specs.declared.Check.{Check}
 use Rattle.rules.specs.declared.Check.the-variants.{Passed, Failed}
 use Rattle.rules.specs.declared.Reading.the-variants.{Done as ReadDone}
+use Rattle.rules.specs.Blocks.{lowestCleanBlock}
 use Rattle.rules.specs.Sound.{recordsSound, chipSound}
 use Rattle.rules.specs.Refusals.{recordsCheck, sparesCheck, openCheck, writeCheck, commitCheck, collectCheck}
 use Rattle.rules.specs.Format.{formatSteps}
@@ -33,7 +35,7 @@ use Rattle.rules.specs.Place.{placeOf}
 use Rattle.rules.specs.Commit.{cheapest, commitSteps}
 use Rattle.rules.specs.Write.{commitOwed, lowestFreeSlot, writeSteps}
 use Rattle.rules.specs.Read.{fetch}
-use Rattle.rules.specs.Calls.{ReadOutcome, run, outcome, readCall, writeCall}
+use Rattle.rules.specs.Calls.{ReadOutcome, run, outcome, formatCall, readCall, writeCall}
 use Rattle.rules.specs.Book.{Verdict, done, cut, refused, verdict}
 use Rattle.rules.specs.Demand.{Demand3}
 use Rattle.rules.proofs.Soundness.Statements.{Usable, RecordsSound, ChipSound, SoundBut, Sound, sound-chip}
@@ -43,14 +45,14 @@ use Rattle.rules.proofs.Soundness.RecordChecks.{records-sound, records-
 use Rattle.rules.proofs.Soundness.ChipChecks.{chip-sound, chip-pass}
 use Rattle.rules.proofs.Data.Carries.{Wrote}
 use Rattle.rules.proofs.Space.Room.{victim-found, free-slot, stripe-to-commit}
-use Rattle.rules.proofs.Lists.Fresh.{formatted, rank}
-use Rattle.rules.proofs.Lists.Collecting.{still, collect-leads}
+use Rattle.rules.proofs.Lists.Fresh.{formatted, format-finishes}
+use Rattle.rules.proofs.Lists.Collecting.{still, destination, collect-leads}
 use Rattle.rules.proofs.Lists.EachCall.{open-lost, open-every, collect-every, commit-every, write-ends, write-every}
-use Rattle.rules.proofs.Lists.CutRule.{CutRules, cut-rules}
+use Rattle.rules.proofs.Lists.CutRule.{verdictNumber, CutRules, cut-rules}
 use Rattle.rules.proofs.Lists.FreshSound.{fresh-sound}
-use Rattle.rules.proofs.Lists.Committing.{Committed, commit-closes}
+use Rattle.rules.proofs.Lists.Committing.{StoresRecord, Committed, commit-closes}
 use Rattle.rules.proofs.Lists.Writing.{write-closes}
-use Rattle.rules.proofs.Demand.Invariant.{no-copies}
+use Rattle.rules.proofs.Demand.Invariant.{no-copies-at-rest}
 use Rattle.rules.proofs.Demand.Events.{demand-3}
 
 module _ (l : Layout) where
@@ -76,13 +78,16 @@ module _ (l : Layout) where
     pub place : (c : ℕ) → c ≤ N → placeOf l (pageAt l (s .chips) c) ≡ Nothing
         → (v : ℕ) × (victimOf l c (pageAt l (s .chips) c) (recordAt l (s .records)) ≡ At v)
         × (p : ℕ) × (placeOf l (pageAt l (applyAll l (collectSteps l c s) s .chips) c) ≡ At p)
+    pub destination : (c : ℕ) → c ≤ N → (d : ℕ) × (lowestCleanBlock l (pageAt l (s .chips) c) ≡ At d)
     pub slot : (i : ℕ) × (lowestFreeSlot l (recordAt l (s .records)) ≡ At i)
     pub stripe : (j : ℕ) → commitOwed l (recordAt l (s .records)) j ≡ true → (k : ℕ) × (cheapest l (recordAt l (s .records)) ≡ At k)
     -- "No write is refused for want of space."
     pub accepted : (page : ℕ) (xs : List ℕ) → page < N * S → length xs ≡ W → writeCheck l s noChip page xs ≡ Passed
-    -- no list stops short: the whole list of a write writes its page, that of a commit frees its slot
-    pub writes : (page : ℕ) (xs : List ℕ) → page < N * S → length xs ≡ W → Wrote l page xs s (applyAll l (writeSteps l page xs s) s)
-    pub commits : (j : ℕ) → j < S → hasSlot (recordAt l (s .records) j) ≡ true → Committed l j s (applyAll l (commitSteps l j s) s)
+    -- no list stops short: that of a write and that of a commit end in the record that they are for
+    pub writes : (page : ℕ) (xs : List ℕ) → page < N * S → length xs ≡ W
+        → EndsIn (StoresRecord (stripeOf l page)) (writeSteps l page xs s) × Wrote l page xs s (applyAll l (writeSteps l page xs s) s)
+    pub commits : (j : ℕ) → j < S → hasSlot (recordAt l (s .records) j) ≡ true
+        → EndsIn (StoresRecord j) (commitSteps l j s) × Committed l j s (applyAll l (commitSteps l j s) s)
 
   -- the read of page i of images s that names no chip is done, and gives ys
   abbrev pub Reads : Images → ℕ → List ℕ → Type 0
@@ -119,6 +124,9 @@ module _ (l : Layout) where
         → ReadsBack s page xs (verdict (writeCall l s lost page xs a .answer)) (writeCall l s lost page xs a .images)
     pub cut-rule : CutRules l
     pub demand-3 : Demand3 l
+    -- demand 3 has something to start from, in every geometry within the limits
+    pub starts : limits l ≡ true → (s : Images) → lengths l s ≡ true → (a : ℕ) → length (formatSteps l) ≤ a
+        → verdict (formatCall l s a .answer) ≡ done
 
 module _ (l : Layout) (some : 1 ≤ l .D) (narrow : l .D ≤ 4) where
   open Layout l using (N, W, S)
@@ -158,12 +166,13 @@ module _ (l : Layout) (some : 1 ≤ l .D) (narrow : l .D ≤ 4) where
         (still l (usable w) s c rest) nowhere in
         let after = collect-leads l (usable w) s f rest c chip′ v victim .ends in
         (v, victim, after .place, after .found);
+    destination = λ c chip. destination l (usable w) s f rest c (omega arith);
     slot = let free = free-slot l w (recordAt l (s .records)) (collectionAt l (s .records)) (f .stripes) in (free .0, free .1);
     stripe = λ j owed. let least = stripe-to-commit l w (recordAt l (s .records)) j owed in (least .0, least .1);
     accepted = λ page xs inside whole.
         write-passes l s page xs (record { within = w; sound = f; at-rest = rest; page = inside; whole = whole });
-    writes = λ page xs inside whole. write-closes l (usable w) page inside xs whole s f rest .whole;
-    commits = λ j fits has. commit-closes l (usable w) j fits s f rest has .whole;
+    writes = λ page xs inside whole. let c = write-closes l (usable w) page inside xs whole s f rest in (c .last, c .whole);
+    commits = λ j fits has. let c = commit-closes l (usable w) j fits s f rest has in (c .last, c .whole);
   }
 
   sound-reads : Within l → (s : Images) → Sound l s → (i : ℕ) → i < N * S → Reads l s i (fetch l s noChip i .bytes)
@@ -180,9 +189,9 @@ module _ (l : Layout) (some : 1 ≤ l .D) (narrow : l .D ≤ 4) where
   module _ (s : Images) (page : ℕ) (xs : List ℕ) where
     refused-back : ReadsBack l s page xs refused s
     refused-back = record {
-      here = λ e. absurd (omega (arith, ap rank e));
-      elsewhere = λ e. absurd (omega (arith, ap rank e));
-      cut-short = λ e. absurd (omega (arith, ap rank e));
+      here = λ e. absurd (omega (arith, ap verdictNumber e));
+      elsewhere = λ e. absurd (omega (arith, ap verdictNumber e));
+      cut-short = λ e. absurd (omega (arith, ap verdictNumber e));
     }
 
     module _ (o : WriteAccepted l s page xs) where
@@ -190,10 +199,10 @@ module _ (l : Layout) (some : 1 ≤ l .D) (narrow : l .D ≤ 4) where
       cut-back a less =
           let c = write-ends l (usable (o .within)) s page xs o .cut a less in
           record {
-            here = λ e. absurd (omega (arith, ap rank e));
-            elsewhere = λ e. absurd (omega (arith, ap rank e));
+            here = λ e. absurd (omega (arith, ap verdictNumber e));
+            elsewhere = λ e. absurd (omega (arith, ap verdictNumber e));
             cut-short = λ e i inside.
-                read-as (o .within) s (applyAll l (made a (writeSteps l page xs s)) s) (o .sound) (c .sound) i inside (c .reads (no-copies l s (o .at-rest)) i inside);
+                read-as (o .within) s (applyAll l (made a (writeSteps l page xs s)) s) (o .sound) (c .sound) i inside (c .reads (no-copies-at-rest l s (o .at-rest)) i inside);
           }
 
       done-back : ReadsBack l s page xs done (applyAll l (writeSteps l page xs s) s)
@@ -203,8 +212,8 @@ module _ (l : Layout) (some : 1 ≤ l .D) (narrow : l .D ≤ 4) where
           record {
             here = λ e. rw (w .here) at (sound-reads (o .within) t (w .sound) page (o .page));
             elsewhere = λ e i inside other.
-                read-as (o .within) s t (o .sound) (w .sound) i inside (w .elsewhere (no-copies l s (o .at-rest)) i inside other);
-            cut-short = λ e. absurd (omega (arith, ap rank e));
+                read-as (o .within) s t (o .sound) (w .sound) i inside (w .elsewhere (no-copies-at-rest l s (o .at-rest)) i inside other);
+            cut-short = λ e. absurd (omega (arith, ap verdictNumber e));
           }
 
     reads-back-by : (check : Check) (a : ℕ) → (check ≡ Passed → WriteAccepted l s page xs)
@@ -229,6 +238,7 @@ module _ (l : Layout) (some : 1 ≤ l .D) (narrow : l .D ≤ 4) where
     reading-back = reads-back;
     cut-rule = cut-rules l;
     demand-3 = demand-3 l some narrow;
+    starts = λ fit s long a enough. format-finishes l s a fit long enough;
   }
 
 -- for every geometry of document 01, whose page numbers take two bytes

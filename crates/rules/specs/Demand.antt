@@ -24,7 +24,7 @@ allName c (call ∷ calls) = (lostChip call ≡ c) × allName c calls
 module _ (l : Layout) where
   open Layout l using (N, W, S)
 
-  -- the images after a call, and what it was answered
+  -- the images after a call; a read leaves them
   abbrev pub imagesAfter : Call → Images → Images
   imagesAfter (open-call lost a) s = openCall l s lost a .images
   imagesAfter (read-call lost page buffer) s = s

@@ -11,7 +11,7 @@ use Rattle.layout.specs.Page.{Page}
 module _ (l : Layout) where
   open Layout l using (N)
 
-  -- the data of page p of chip c, and the reads for it
+  -- the data of page p of chip c: "a page number of none adds zeros"
   unfoldable pub bytesAt : (ℕ → ℕ → Page) → ℕ → ℕ → List ℕ
   bytesAt y c p = cond (isNone l p) [] (y c p .bytes)
 
@@ -19,18 +19,18 @@ module _ (l : Layout) where
   unfoldable pub readsAt : ℕ → ℕ
   readsAt p = cond (isNone l p) 0 1
 
-  -- the XOR of a page of each member of stripe j, page f m of member m, and the reads for it
+  -- the data of page f m of member m of stripe j
   abbrev pub memberBytes : (ℕ → ℕ → Page) → ℕ → (ℕ → ℕ) → ℕ → List ℕ
   memberBytes y j f m = bytesAt y (memberChip l j m) (f m)
 
-  -- their XOR over the N members
+  -- the XOR of these over the N members
   unfoldable pub gathered : (ℕ → ℕ → Page) → ℕ → (ℕ → ℕ) → List ℕ
   gathered y j f = xorBelow N (memberBytes y j f)
 
-  -- member m has a page there
+  -- member m has such a page
   abbrev pub isPage : (ℕ → ℕ) → ℕ → Bool
   isPage f m = not (isNone l (f m))
 
-  -- the pages read for it
+  -- the pages read for the XOR
   unfoldable pub gatheredReads : (ℕ → ℕ) → ℕ
   gatheredReads f = countBelow N (isPage f)

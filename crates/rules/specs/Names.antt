@@ -19,11 +19,11 @@ module _ (l : Layout) where
   unfoldable pub sideNumber : ℕ → ℕ → Record → ℕ
   sideNumber c j r = cond (eqb c (parityChip l j)) (none l) (r .old (memberOn l j c))
 
-  -- the kind and the member of a page of stripe j on chip c: "member (0 for parity)"
+  -- the kind of a page of stripe j on chip c: "68 data, 80 parity"
   unfoldable pub kindOn : ℕ → ℕ → ℕ
   kindOn c j = cond (eqb c (parityChip l j)) parityKind dataKind
 
-  -- "member (0 for parity)"
+  -- and its member: "member (0 for parity)"
   unfoldable pub memberTag : ℕ → ℕ → ℕ
   memberTag c j = cond (eqb c (parityChip l j)) 0 (memberOn l j c)
 

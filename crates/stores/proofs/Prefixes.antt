@@ -1,7 +1,8 @@
 -- Cuts: what holds after every prefix of a list of stores.
 use Prim.Native.Nat.{ℕ, zero, suc, _<_}
 use native.Mathlib.Nat.{le-refl, le-step, lt-suc-self, not-suc-le-zero, le-of-suc-le-suc}
-use mathlib.Core.List.{List, [], _∷_, _++_}
+use mathlib.Core.Path.{_≡_, refl, sym}
+use mathlib.Core.List.{List, [], _∷_, _++_, append-assoc}
 use lib.ListN.{length}
 use lib.Seq.{take-all}
 use Rattle.units.proofs.Looks.{by-order}
@@ -10,6 +11,13 @@ use Rattle.layout.specs.Images.{Images}
 use Rattle.stores.specs.Store.{apply}
 use Rattle.stores.specs.Steps.{Step, made, applyAll, andThen, stepsBelow, thenBelow}
 use Rattle.stores.proofs.Runs.{apply-append}
+
+-- the last step of xs passes L
+abbrev pub EndsIn : (Step → Type 0) → List Step → Type 0
+EndsIn L xs = (ys : List Step) × (x : Step) × L x × (xs ≡ ys ++ (x ∷ []))
+
+ends-append : (L : Step → Type 0) (xs ys : List Step) → EndsIn L ys → EndsIn L (xs ++ ys)
+ends-append L xs ys (zs, x, is, e) = (xs ++ zs, x, is, rw e (sym (append-assoc xs zs (x ∷ []))))
 
 module _ (l : Layout) where
   -- P holds after every prefix of xs
@@ -123,19 +131,20 @@ module _ (l : Layout) where
   cuts-two P x y s h k (suc zero) less = k
   cuts-two P x y s h k (suc (suc a)) less = absurd (not-suc-le-zero (le-of-suc-le-suc (le-of-suc-le-suc less)))
 
-  -- R holds between the images before xs and those after each cut of it, and F after all of it
-  pub record Closes (R F : Images → Images → Type 0) (xs : List Step) (s : Images) : Type 0 where
+  -- R holds between the images before xs and those after each cut of it, and F after all of it; its last step passes L
+  pub record Closes (R F : Images → Images → Type 0) (L : Step → Type 0) (xs : List Step) (s : Images) : Type 0 where
     pub cut : Cuts (R s) xs s
     pub whole : F s (applyAll l xs s)
+    pub last : EndsIn L xs
 
-  module _ (R F : Images → Images → Type 0) where
-    pub closes-two : (x y : Step) (s : Images) → R s s → R s (apply l (x .store) s) → F s (apply l (y .store) (apply l (x .store) s)) → Closes R F (x ∷ y ∷ []) s
+  module _ (R F : Images → Images → Type 0) (L : Step → Type 0) where
+    pub closes-two : (x y : Step) (s : Images) → R s s → R s (apply l (x .store) s) → F s (apply l (y .store) (apply l (x .store) s)) → L y → Closes R F L (x ∷ y ∷ []) s
     unfolding applyAll
-    closes-two x y s same step last = record { cut = cuts-two (R s) x y s same step; whole = last }
+    closes-two x y s same step whole is-last = record { cut = cuts-two (R s) x y s same step; whole = whole; last = (x ∷ [], y, is-last, refl) }
 
     module _ (trans : (s t u : Images) → R s t → R t u → R s u) (closing : (s t u : Images) → R s t → F t u → F s u) where
       closes-append : (Q : Images → Type 0) (xs ys : List Step) (s : Images) → Leads R Q xs s
-          → (R s (applyAll l xs s) → Q (applyAll l xs s) → Closes R F ys (applyAll l xs s)) → Closes R F (xs ++ ys) s
+          → (R s (applyAll l xs s) → Q (applyAll l xs s) → Closes R F L ys (applyAll l xs s)) → Closes R F L (xs ++ ys) s
       closes-append Q xs ys s first next =
           let t = applyAll l xs s in
           let reached = every-whole (R s) xs s (first .along) in
@@ -143,17 +152,18 @@ module _ (l : Layout) where
           record {
             cut = cuts-append (R s) xs ys s (first .along) (λ a h. trans s t (applyAll l (made a ys) t) reached (second .cut a h));
             whole = rw (apply-append l xs ys s) (closing s t (applyAll l ys t) reached (second .whole));
+            last = ends-append L xs ys (second .last);
           }
 
       pub closes-then : (Q : Images → Type 0) (xs : List Step) (f : Images → List Step) (s : Images) → Leads R Q xs s
-          → ((t : Images) → R s t → Q t → Closes R F (f t) t) → Closes R F (andThen l xs f s) s
+          → ((t : Images) → R s t → Q t → Closes R F L (f t) t) → Closes R F L (andThen l xs f s) s
       unfolding andThen
       closes-then Q xs f s first next = closes-append Q xs (f (applyAll l xs s)) s first (next (applyAll l xs s))
 
   -- where F is more than R, what closes also leads
-  pub closes-leads : (R F : Images → Images → Type 0) (Q : Images → Type 0) (xs : List Step) (s : Images) → Closes R F xs s
+  pub closes-leads : (R F : Images → Images → Type 0) (L : Step → Type 0) (Q : Images → Type 0) (xs : List Step) (s : Images) → Closes R F L xs s
       → ((t : Images) → F s t → R s t) → ((t : Images) → F s t → Q t) → Leads R Q xs s
-  closes-leads R F Q xs s h less end = record {
+  closes-leads R F L Q xs s h less end = record {
     along = λ a.
         by-order a (length xs)
         (h .cut a)
@@ -161,5 +171,6 @@ module _ (l : Layout) where
     ends = end (applyAll l xs s) (h .whole);
   }
 
-  pub closes-weaken : (R T F : Images → Images → Type 0) (xs : List Step) (s : Images) → ((t : Images) → R s t → T s t) → Closes R F xs s → Closes T F xs s
-  closes-weaken R T F xs s less h = record { cut = λ a below. less (applyAll l (made a xs) s) (h .cut a below); whole = h .whole }
+  pub closes-weaken : (R T F : Images → Images → Type 0) (L : Step → Type 0) (xs : List Step) (s : Images) → ((t : Images) → R s t → T s t)
+      → Closes R F L xs s → Closes T F L xs s
+  closes-weaken R T F L xs s less h = record { cut = λ a below. less (applyAll l (made a xs) s) (h .cut a below); whole = h .whole; last = h .last }

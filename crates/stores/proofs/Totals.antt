@@ -44,9 +44,11 @@ unfolding countedAll counted
 stores-from [] n = omega arith
 stores-from (x ∷ xs) n = omega (arith, stores-from xs (counted x n))
 
--- "pages read, pages programmed, blocks erased, stores"
-pub counts-are : (xs : List Step)
-    → countedAll xs noCounts ≡ record { reads = total stepReads xs; programs = total stepPrograms xs; erases = total stepErases xs; stores = length xs }
+-- "pages read (data or parity), pages programmed, blocks erased, stores", added up over a list
+abbrev pub totals : List Step → Counts
+totals xs = record { reads = total stepReads xs; programs = total stepPrograms xs; erases = total stepErases xs; stores = length xs }
+
+pub counts-are : (xs : List Step) → countedAll xs noCounts ≡ totals xs
 counts-are xs = λ i. record {
   reads = (reads-from xs noCounts ∙ zero-add (total stepReads xs)) i;
   programs = (programs-from xs noCounts ∙ zero-add (total stepPrograms xs)) i;

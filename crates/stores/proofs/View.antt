@@ -93,16 +93,16 @@ module _ (l : Layout) where
       unfolding start
       fits-in = omega (arith, block-ends, apart (pages l) c (N + 1) chip)
 
-      pub length-erased : length (erased l c b chips) ≡ length chips
-      unfolding erased chipsLength start
-      length-erased =
-          length-put-units ((N + 1) * pages l) (pageBytes l) start K (replicate (K * pageBytes l) 255) chips long fits-in (length-replicate (K * pageBytes l) 255)
-
       erase-within : (p : ℕ) → b * K ≤ p → p < b * K + K → pageAt l (erased l c b chips) c p ≡ erasedPage
       unfolding erased chipsLength start erasedPage
       erase-within p low high =
           inside (erased l c b chips) c p (omega (arith, block-ends))
           ∙ ap (pageOf l) (unit-fill-in ((N + 1) * pages l) (pageBytes l) start K (c * pages l + p) 255 chips long fits-in (omega arith) (omega arith))
+
+      pub length-erased : length (erased l c b chips) ≡ length chips
+      unfolding erased chipsLength start
+      length-erased =
+          length-put-units ((N + 1) * pages l) (pageBytes l) start K (replicate (K * pageBytes l) 255) chips long fits-in (length-replicate (K * pageBytes l) 255)
 
       erase-before : (c′ p : ℕ) → p < pages l → c′ * pages l + p < start → pageAt l (erased l c b chips) c′ p ≡ pageAt l chips c′ p
       unfolding erased chipsLength start

@@ -57,9 +57,6 @@ count-less (suc n) f i h t = at-last i n h
     (λ b. omega (arith, count-next n f, count-less n f i b t))
     (λ q. omega (arith, count-fail n f (rw q at t), count-le n f))
 
-pub count-all-back : (n : ℕ) (f : ℕ → Bool) → countBelow n f ≡ n → (i : ℕ) → i < n → f i ≡ true
-count-all-back n f e i h = by-test (f i) (λ t. t) (λ t. absurd (omega (arith, count-less n f i h t)))
-
 pub count-positive : (n : ℕ) (f : ℕ → Bool) (i : ℕ) → i < n → f i ≡ true → 0 < countBelow n f
 count-positive n f i h t = omega (arith, count-mono (suc i) n f h, count-pass i f t)
 
@@ -228,3 +225,12 @@ past-fits a k n m h below = by-past a k n (λ low q. omega arith) (λ high q. om
 
 pub past-apart : (a k n i : ℕ) → i < k → past a k n ≢ a + i
 past-apart a k n i h e = by-past a k n (λ low q. omega arith) (λ high q. omega arith)
+
+-- what passes f does not pass g: together they are no more than n
+pub count-apart : (n : ℕ) (f g : ℕ → Bool) → ((i : ℕ) → i < n → f i ≡ true → g i ≡ false) → countBelow n f + countBelow n g ≤ n
+count-apart zero f g h = omega (arith, count-start f, count-start g)
+count-apart (suc n) f g h =
+    let ih = count-apart n f g (λ i b. h i (le-step b)) in
+    by-test (f n)
+    (λ t. omega (arith, count-pass n f t, count-fail n g (h n (lt-suc-self n) t)))
+    (λ t. omega (arith, count-fail n f t, count-next n g))

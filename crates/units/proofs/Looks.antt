@@ -1,6 +1,6 @@
 -- Laws of the ways to look through the numbers below a bound.
 use Prim.Native.Nat.{ℕ, zero, suc, _≤_, _<_, suc-le-suc}
-use native.Mathlib.Nat.{not-suc-le-zero, le-step, lt-suc-self, le-refl, le-of-lt, lt-of-lt-of-le, lt-trans}
+use native.Mathlib.Nat.{not-suc-le-zero, le-step, lt-suc-self, le-refl, le-of-lt, lt-of-lt-of-le}
 use native.Mathlib.Omega.{arith}
 use native.Mathlib.Decide.{decLt, ℕ-discrete}
 use mathlib.Core.Path.{_≡_, refl, sym, ap, _∙_}
@@ -222,20 +222,3 @@ least-is n f m i l =
 
 pub least-none : (n : ℕ) (f : ℕ → Bool) (m : ℕ → ℕ) → ((i : ℕ) → i < n → f i ≡ false) → leastBelow n f m ≡ Nothing
 least-none n f m h = by-found (leastBelow n f m) (λ i q. let l = least-at n f m i q in both (f i) (l .1) (h i (l .0))) (λ q. q)
-
-is-least-cong : (n : ℕ) (f g : ℕ → Bool) (m o : ℕ → ℕ) → ((i : ℕ) → i < n → f i ≡ g i) → ((i : ℕ) → i < n → f i ≡ true → m i ≡ o i)
-    → (i : ℕ) → IsLeast n g o i → IsLeast n f m i
-is-least-cong n f g m o e h i l =
-    let t : f i ≡ true = e i (l .0) ∙ l .1 in
-    let at-i : m i ≡ o i = h i (l .0) t in (
-      l .0,
-      t,
-      λ k b p. omega (arith, at-i, h k b p, l .2 k b (sym (e k b) ∙ p)),
-      λ k b p. let c = lt-trans b (l .0) in omega (arith, at-i, h k c p, l .3 k b (sym (e k c) ∙ p)),
-    )
-
-pub least-cong : (n : ℕ) (f g : ℕ → Bool) (m o : ℕ → ℕ) → ((i : ℕ) → i < n → f i ≡ g i) → ((i : ℕ) → i < n → f i ≡ true → m i ≡ o i)
-    → leastBelow n f m ≡ leastBelow n g o
-least-cong n f g m o e h = by-found (leastBelow n g o)
-    (λ i q. least-is n f m i (is-least-cong n f g m o e h i (least-at n g o i q)) ∙ sym q)
-    (λ q. least-none n f m (λ i b. e i b ∙ least-nothing n g o q i b) ∙ sym q)

@@ -1,6 +1,6 @@
 -- Laws of the XOR of byte lists: with `[]` it is a commutative monoid, whatever the lengths; and of `xorBelow`.
 use Prim.Native.Nat.{ℕ, zero, suc, _/_, _≤_, _<_, zero-le, max}
-use native.Mathlib.Nat.{zero-max, max-zero, suc-max-suc, max-eq-left, max-eq-right, not-suc-le-zero, le-of-suc-le-suc}
+use native.Mathlib.Nat.{zero-max, max-zero, suc-max-suc, max-eq-left, not-suc-le-zero, le-of-suc-le-suc}
 use native.Mathlib.Omega.{arith}
 use mathlib.Core.Path.{_≡_, refl, sym, ap, ap₂, _∙_}
 use mathlib.Core.Logic.{_≢_}
@@ -66,12 +66,6 @@ length-xors (x ∷ a) (y ∷ b) = ap suc (length-xors a b) ∙ sym (suc-max-suc 
 -- so also where the shorter one is `[]`
 pub length-xors-left : (a b : List ℕ) → length b ≤ length a → length (a ⊕ b) ≡ length a
 length-xors-left a b h = length-xors a b ∙ max-eq-left h
-
-pub length-xors-right : (a b : List ℕ) → length a ≤ length b → length (a ⊕ b) ≡ length b
-length-xors-right a b h = length-xors a b ∙ max-eq-right h
-
-pub length-xors-same : (a b : List ℕ) (w : ℕ) → length a ≡ w → length b ≡ w → length (a ⊕ b) ≡ w
-length-xors-same a b w p q = omega (arith, length-xors a b)
 
 -- ---- a list against itself, and zeros
 

@@ -1,4 +1,4 @@
--- What every cut of every call keeps: soundness, the copies of a collection, both XOR groups of every stripe, and what every page reads as.
+-- What every cut of a call keeps, of all but a format: soundness, the copies of a collection, both XOR groups of every stripe, and what every page reads as.
 use Prim.Native.Nat.{ℕ, _+_, _*_, _<_}
 use native.Mathlib.Decide.{ℕ-discrete}
 use mathlib.Core.Path.{_≡_, refl, sym, ap, _∙_}

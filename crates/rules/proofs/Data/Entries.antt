@@ -188,9 +188,6 @@ module _ (l : Layout) where
     length-slot : hasSlot r ≡ true → length (slotAt l (s .slots) (r .slot)) ≡ W
     length-slot t = slot-whole l s (f .slots) (r .slot) (omega (arith, sound .slot (slot-bits l r sound t)))
 
-    length-number : (c p : ℕ) → c < N + 1 → Numbered l p → length (bytesAt l y c p) ≤ W
-    length-number = length-bytes-most l y (pages-whole l s (f .chips))
-
     length-outside : length (gathered l y j (currentOutside l r)) ≤ W
     unfolding currentOutside
     length-outside = length-gathered l y j (pages-whole l s (f .chips)) (currentOutside l r)
@@ -212,7 +209,7 @@ module _ (l : Layout) where
         (λ e. rw e (length-xors-left x (gathered l y j (currentOutside l r)) (omega (arith, length-slot t, length-outside)) ∙ length-slot t))
         (λ e. rw e
         (length-xors-left x (parity ⊕ old)
-        (omega (arith, length-slot t, length-xors parity old, length-old, length-number (parityChip l j) (r .parity) (parity-chip-fits l j) (sound .parity)))
+        (omega (arith, length-slot t, length-xors parity old, length-old, length-bytes-most l y (pages-whole l s (f .chips)) (parityChip l j) (r .parity) (parity-chip-fits l j) (sound .parity)))
         ∙ length-slot t))
 
   pub new-partial-length : Within l → (s : Images) (j m : ℕ) (xs : List ℕ) → Sound l s → j < S → m < N → length xs ≡ W
@@ -223,7 +220,7 @@ module _ (l : Layout) where
       let x = slotAt l (s .slots) (r .slot) in
       let page = bytesAt l (pageAt l (s .chips)) (memberChip l j m) (r .current m) in
       let short =
-      length-number w s j f fits (memberChip l j m) (r .current m) (member-chip-fits l j m h) (sound-member l w r (sound w s j f fits) m h .current) in
+      length-bytes-most l (pageAt l (s .chips)) (pages-whole l s (f .chips)) (memberChip l j m) (r .current m) (member-chip-fits l j m h) (sound-member l w r (sound w s j f fits) m h .current) in
       by-test (hasSlot r)
       (λ t. by-test (bit r m)
       (λ b. rw (t, b) (omega (arith, length-xors (x ⊕ page) xs, length-xors x page, length-slot w s j f fits t, short, long)))

@@ -7,6 +7,7 @@ use lib.Seq.{take-all}
 use borrow.Author.Tests.{ltb-true, ltb-false}
 use Rattle.units.proofs.Looks.{by-test}
 use Rattle.layout.specs.Layout.{Layout}
+use Rattle.layout.specs.Rotation.{stripeOf}
 use Rattle.layout.specs.Images.{Images}
 use Rattle.stores.specs.Steps.{Step, made, isCut, applyAll}
 use Rattle.stores.proofs.Prefixes.{Every, Closes}
@@ -23,6 +24,7 @@ use Rattle.rules.specs.Demand.{World, called}
 use Rattle.rules.proofs.Soundness.Statements.{Usable}
 use Rattle.rules.proofs.Soundness.Accepted.{write-accepted, commit-accepted, collect-accepted}
 use Rattle.rules.proofs.Data.Carries.{Carries, Wrote}
+use Rattle.rules.proofs.Lists.Committing.{StoresRecord}
 use Rattle.rules.proofs.Lists.EachCall.{open-every, collect-every, commit-every, write-ends}
 use Rattle.rules.proofs.Demand.Invariant.{Inv, carries-inv, wrote-inv}
 
@@ -35,16 +37,16 @@ module _ (l : Layout) where
   outcome-inv (Failed r) a steps s book f h = f
 
   -- a write changes its page where it is done, and nothing where it is cut or refused
-  write-inv : (check : Check) (a lost page : ℕ) (xs : List ℕ) (steps : Images → List Step) (s : Images) (book : Book) → Inv l s book
-      → (check ≡ Passed → Closes l (Carries l) (Wrote l page xs) (steps s) s)
+  write-inv : (L : Step → Type 0) (check : Check) (a lost page : ℕ) (xs : List ℕ) (steps : Images → List Step) (s : Images) (book : Book) → Inv l s book
+      → (check ≡ Passed → Closes l (Carries l) (Wrote l page xs) L (steps s) s)
       → Inv l (outcome l check a steps s .images) (booked (write-call lost page xs a) (verdict (outcome l check a steps s .answer)) book)
   unfolding run booked
-  write-inv Passed a lost page xs steps s book f h = by-test (isCut a (steps s))
+  write-inv L Passed a lost page xs steps s book f h = by-test (isCut a (steps s))
       (λ e. rw e (carries-inv l s (applyAll l (made a (steps s)) s) book (h refl .cut a (ltb-true a (length (steps s)) e)) f))
       (λ e.
       rw (e, take-all a (steps s) (ltb-false a (length (steps s)) e))
       (wrote-inv l page xs s (applyAll l (steps s) s) book (h refl .whole) f))
-  write-inv (Failed r) a lost page xs steps s book f h = f
+  write-inv L (Failed r) a lost page xs steps s book f h = f
 
   pub call-inv : Usable l → (call : Call) (x : World) → Inv l (x .images) (x .book) → Inv l (called l call x .images) (called l call x .book)
   unfolding called booked openCall writeCall commitCall collectCall
@@ -52,7 +54,7 @@ module _ (l : Layout) where
       outcome-inv (openCheck l (x .images) lost) a (openSteps l lost) (x .images) (x .book) f (λ passed. open-every l u (x .images) (f .sound) lost)
   call-inv u (read-call lost page buffer) x f = f
   call-inv u (write-call lost page xs a) x f =
-      write-inv (writeCheck l (x .images) lost page xs) a lost page xs (writeSteps l page xs) (x .images) (x .book) f
+      write-inv (StoresRecord (stripeOf l page)) (writeCheck l (x .images) lost page xs) a lost page xs (writeSteps l page xs) (x .images) (x .book) f
       (λ passed. write-ends l u (x .images) page xs (write-accepted l (x .images) lost page xs passed .1))
   call-inv u (commit-call lost j a) x f =
       outcome-inv (commitCheck l (x .images) lost j) a (commitSteps l j) (x .images) (x .book) f

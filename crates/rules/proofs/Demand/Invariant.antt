@@ -64,8 +64,8 @@ module _ (l : Layout) where
   }
 
   -- at rest no copy is due
-  pub no-copies : (s : Images) → collectionAt l (s .records) .phase ≡ 0 → CopiesOf l s
-  no-copies s e =
+  pub no-copies-at-rest : (s : Images) → collectionAt l (s .records) .phase ≡ 0 → CopiesOf l s
+  no-copies-at-rest s e =
       no-copies-yet l (recordAt l (s .records)) (pageAt l (s .chips) (collectionAt l (s .records) .chip)) (collectionAt l (s .records)) (λ two. absurd (omega arith))
 
   module _ (u : Usable l) where
@@ -89,7 +89,7 @@ module _ (l : Layout) where
     unfolding emptyRecord
     fresh-inv s f = record {
       sound = fresh-sound l (u .within) s f;
-      copies = no-copies s (ap (λ (o : Collection). o .phase) (f .collection));
+      copies = no-copies-at-rest s (ap (λ (o : Collection). o .phase) (f .collection));
       data-too = fresh-data s f;
       reads = λ i h. ap (λ (x : Fetched). x .bytes) (fetch-unwritten l s noChip i (ap (λ (r : Record). r .current (memberOf l i)) (f .stripe (stripeOf l i) (stripe-fits l (u .within) i h))));
     }

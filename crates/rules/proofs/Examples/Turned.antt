@@ -13,6 +13,7 @@ use Rattle.rules.specs.declared.Answer.the-variants.{Refused}
 use Rattle.rules.specs.declared.Reading.the-variants.{Refused as ReadRefused}
 use Rattle.rules.specs.Refusals.{refusalNumber, buffersCheck, formatCheck, imagesCheck, openCheck, readCheck, writeCheck, commitCheck, collectCheck}
 use Rattle.rules.specs.Calls.{formatCall, openCall, readCall, writeCall, commitCall, collectCall}
+use Rattle.rules.proofs.Soundness.Accepted.{format-passes}
 
 module _ (l : Layout) where
   -- every call is refused with r, and changes nothing
@@ -35,10 +36,6 @@ module _ (l : Layout) where
     collect = λ s lost c a. rw e;
   }
 
-  pub inside-limits : limits l ≡ true → (s : Images) → lengths l s ≡ true → formatCheck l s ≡ Passed
-  unfolding formatCheck buffersCheck
-  inside-limits e s long = rw (e, long)
-
 -- "512 × 128 is refusal 1", "10 is refusal 1"
 pub too-many-pages : (refusalNumber Geometry ≡ 1) × TurnedBack (geometry 4 16 128 512 9 2) Geometry
 too-many-pages = (refl, outside-limits (geometry 4 16 128 512 9 2) (within-limits .1 .0))
@@ -48,7 +45,7 @@ too-many-stripes = outside-limits (geometry 4 16 4 4 10 2) (within-limits .1 .1 
 
 -- "771 × 85 pages accepted", "S = 9 accepted"
 pub most-pages : (s : Images) → lengths (geometry 4 16 85 771 9 2) s ≡ true → formatCheck (geometry 4 16 85 771 9 2) s ≡ Passed
-most-pages = inside-limits (geometry 4 16 85 771 9 2) (within-limits .0)
+most-pages s = format-passes (geometry 4 16 85 771 9 2) s (within-limits .0)
 
 pub most-stripes : (s : Images) → lengths (geometry 4 16 4 4 9 2) s ≡ true → formatCheck (geometry 4 16 4 4 9 2) s ≡ Passed
-most-stripes = inside-limits (geometry 4 16 4 4 9 2) (within-limits .1 .1 .0)
+most-stripes s = format-passes (geometry 4 16 4 4 9 2) s (within-limits .1 .1 .0)

@@ -54,20 +54,20 @@ module _ (l : Layout) (u : Usable l) where
     here : ChipSound l r x c (collectionAt l (s .records))
     here = sound-chip l u s f c chip
 
-    module _ (v : ℕ) (victim : victimOf l c x r ≡ At v) where
-      -- the destination is there: some block is wholly clean
-      destination : (d : ℕ) × (lowestCleanBlock l x ≡ At d)
-      unfolding lowestCleanBlock
-      destination =
-          let (b, fits, is) = here .spare (still s c rest) in
-          first-found B (cleanBlock l x) b fits is
+    -- the destination is there: some block is wholly clean
+    pub destination : (d : ℕ) × (lowestCleanBlock l x ≡ At d)
+    unfolding lowestCleanBlock
+    destination =
+        let (b, fits, is) = here .spare (still s c rest) in
+        first-found B (cleanBlock l x) b fits is
 
+    module _ (v : ℕ) (victim : victimOf l c x r ≡ At v) where
       chosen : Chosen l s c v (destination .0)
       unfolding victimOf collectable fullBlock lowestCleanBlock
       chosen =
           let least = least-at B (collectable l c x r) (namedCount l c x r) v victim in
-          let (full, hole) = and-both (fullBlock l x v) (someBelow K (unnamedIn l r c v)) (least .1) in
-          let (i, fits, is) = some-at K (unnamedIn l r c v) hole in
+          let (full, spared) = and-both (fullBlock l x v) (someBelow K (unnamedIn l r c v)) (least .1) in
+          let (i, fits, is) = some-at K (unnamedIn l r c v) spared in
           let low = first-at B (cleanBlock l x) (destination .0) (destination .1) in
           record {
             rest = rest;
@@ -75,9 +75,9 @@ module _ (l : Layout) (u : Usable l) where
             victim = least .0;
             destination = low .0;
             full = λ k h. not-true (cleanIn l x v k) (all-at K (usedIn l x v) full k h);
-            hole = i;
-            hole-fits = fits;
-            hole-unnamed = not-true (named l r c (pageIn l v i)) is;
+            spared = i;
+            spared-fits = fits;
+            spared-unnamed = not-true (named l r c (pageIn l v i)) is;
             is-clean = low .1;
           }
 
@@ -105,11 +105,11 @@ module _ (l : Layout) (u : Usable l) where
           (finish-leads l u t (k .sound))))
 
     -- Where f closes from every image that has a place, it closes after a place was found, or made by a collection.
-    module _ (R F : Images → Images → Type 0)
+    module _ (R F : Images → Images → Type 0) (L : Step → Type 0)
         (less : (t w : Images) → Kept l t w → R t w) (trans : (t w z : Images) → R t w → R w z → R t z) (closing : (t w z : Images) → R t w → F w z → F t z)
         (fill : ℕ → Images → List Step)
-        (fills : (t : Images) → Kept l s t → collectionAt l (t .records) .phase ≡ 0 → (p : ℕ) → PlaceAt l (pageAt l (t .chips) c) p → Closes l R F (fill p t) t) where
-      at-place : (t : Images) → Kept l s t → HasPlace l c t → (other : List Step) → Closes l R F (atPlace l c fill other t) t
+        (fills : (t : Images) → Kept l s t → collectionAt l (t .records) .phase ≡ 0 → (p : ℕ) → PlaceAt l (pageAt l (t .chips) c) p → Closes l R F L (fill p t) t) where
+      at-place : (t : Images) → Kept l s t → HasPlace l c t → (other : List Step) → Closes l R F L (atPlace l c fill other t) t
       unfolding atPlace whenFound
       at-place t k h other =
           rw (h .found)
@@ -118,14 +118,14 @@ module _ (l : Layout) (u : Usable l) where
           (still t c (h .rest)) (h .place) (h .found)))
 
       -- with no place there is a victim, and after its collection there is a place
-      collected : (v : ℕ) → victimOf l c x r ≡ At v → Closes l R F (andThen l (collectSteps l c s) (atPlace l c fill []) s) s
+      collected : (v : ℕ) → victimOf l c x r ≡ At v → Closes l R F L (andThen l (collectSteps l c s) (atPlace l c fill []) s) s
       collected v victim =
-          closes-then l R F trans closing (λ t. Kept l s t × HasPlace l c t) (collectSteps l c s) (atPlace l c fill []) s
+          closes-then l R F L trans closing (λ t. Kept l s t × HasPlace l c t) (collectSteps l c s) (atPlace l c fill []) s
           (leads-weaken l (Kept l) R (HasPlace l c) (λ t. Kept l s t × HasPlace l c t) (collectSteps l c s) s (less s) (λ t k h. (k, h)) (collect-leads v victim))
           (λ t reached h. at-place t (h .0) (h .1) [])
 
       -- so a call that needs a place gets one
-      pub placed-closes : Closes l R F (placed l c fill s) s
+      pub placed-closes : Closes l R F L (placed l c fill s) s
       unfolding placed atPlace whenFound
       placed-closes = by-found (placeOf l x)
           (λ p e. at-place s (kept-refl l s f) (record { rest = rest; place = p; found = e }) (andThen l (collectSteps l c s) (atPlace l c fill []) s))

@@ -17,7 +17,7 @@ use Rattle.layout.proofs.Rotations.{parity-chip-fits}
 use Rattle.layout.proofs.Records.{same-slotted}
 use Rattle.layout.proofs.Pages.{none-fits}
 use Rattle.stores.specs.Store.{program, stripe, apply}
-use Rattle.stores.specs.Steps.{plain}
+use Rattle.stores.specs.Steps.{Step, plain}
 use Rattle.stores.proofs.Prefixes.{Closes, closes-two}
 use Rattle.rules.specs.Commit.{newParity, newParityReads, parityPage, committed, commitAt, commitSteps}
 use Rattle.rules.proofs.Soundness.Statements.{Usable, Sound}
@@ -30,6 +30,10 @@ use Rattle.rules.proofs.Data.Entries.{new-parity-length}
 use Rattle.rules.proofs.Space.Room.{PlaceAt}
 use Rattle.rules.proofs.Lists.Filling.{fill-kept, fill-new}
 use Rattle.rules.proofs.Lists.Collecting.{placed-closes}
+
+-- a step that stores the record of stripe j
+abbrev pub StoresRecord : ℕ → Step → Type 0
+StoresRecord j x = (r : Record) × (x ≡ plain (stripe j r))
 
 module _ (l : Layout) where
   open Layout l using (S)
@@ -94,16 +98,16 @@ module _ (l : Layout) (u : Usable l) where
         others = λ i h other. ap (λ (r : Record). r .slot) (commit-others l u t t₁ first same-records rest j p fits slot new i other);
       }
 
-      commit-fills : Closes l (Kept l) (Committed l j) (commitAt l j p t) t
+      commit-fills : Closes l (Kept l) (Committed l j) (StoresRecord j) (commitAt l j p t) t
       unfolding commitAt apply
       commit-fills =
-          closes-two l (Kept l) (Committed l j) (record { reads = newParityReads l (recordAt l (t .records) j); store = program (parityChip l j) p page })
-          (plain (stripe j (committed l p (recordAt l (t .records) j)))) t (kept-refl l t g) first last
+          closes-two l (Kept l) (Committed l j) (StoresRecord j) (record { reads = newParityReads l (recordAt l (t .records) j); store = program (parityChip l j) p page })
+          (plain (stripe j (committed l p (recordAt l (t .records) j)))) t (kept-refl l t g) first last (committed l p (recordAt l (t .records) j), refl)
 
     -- a commit from its first store to its last, with the collection that it may need
     pub commit-closes : (s : Images) → Sound l s → collectionAt l (s .records) .phase ≡ 0 → hasSlot (recordAt l (s .records) j) ≡ true
-        → Closes l (Kept l) (Committed l j) (commitSteps l j s) s
+        → Closes l (Kept l) (Committed l j) (StoresRecord j) (commitSteps l j s) s
     unfolding commitSteps
     commit-closes s f rest slot =
-        placed-closes l u s f rest (parityChip l j) (parity-chip-fits l j) (Kept l) (Committed l j) (λ t w k. k) (kept-trans l) (kept-committed j) (commitAt l j)
+        placed-closes l u s f rest (parityChip l j) (parity-chip-fits l j) (Kept l) (Committed l j) (StoresRecord j) (λ t w k. k) (kept-trans l) (kept-committed j) (commitAt l j)
         (λ t k still p o. commit-fills t (k .sound) still (same-slotted (recordAt l (s .records) j) (recordAt l (t .records) j) (k .slot j fits) ∙ slot) p o)

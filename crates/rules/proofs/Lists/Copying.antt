@@ -45,9 +45,9 @@ module _ (l : Layout) where
     pub victim : v < B
     pub destination : d < B
     pub full : (i : ℕ) → i < K → cleanIn l (pageAt l (s .chips) c) v i ≡ false
-    pub hole : ℕ
-    pub hole-fits : hole < K
-    pub hole-unnamed : namedIn l (recordAt l (s .records)) c v hole ≡ false
+    pub spared : ℕ
+    pub spared-fits : spared < K
+    pub spared-unnamed : namedIn l (recordAt l (s .records)) c v spared ≡ false
     pub is-clean : cleanBlock l (pageAt l (s .chips) c) d ≡ true
 
   -- after the copies of the places before i of the victim
@@ -89,7 +89,7 @@ module _ (l : Layout) (u : Usable l) where
         both (cleanIn l x v 0) (rw e (clean-at l x d 0 (o .is-clean) some)) (o .full 0 some)
 
     fewer : countBelow K isNamed < K
-    fewer = count-less K isNamed (o .hole) (o .hole-fits) (o .hole-unnamed)
+    fewer = count-less K isNamed (o .spared) (o .spared-fits) (o .spared-unnamed)
 
     phase-sound : (n : ℕ) → 0 < n → n ≤ 2 → CollectionSound l (phase n c v d)
     phase-sound n low high = record {
@@ -267,16 +267,14 @@ module _ (l : Layout) (u : Usable l) where
         twin-here = record {
           place = rank;
           fits = omega (arith, ranked, fewer);
-          is-twin =
-              is-twin l r z c (pageIn l v i) (pageIn l d rank)
-              (record {
-                kind = rw (is-copy, original i place);
-                member = rw (is-copy, original i place);
-                stripe = rw (is-copy, original i place);
-                copied = rw is-copy;
-                free = destination-unnamed rank (omega (arith, ranked, fewer));
-              });
-          only = only-copy;
+          is-twin = record {
+            kind = rw (is-copy, original i place);
+            member = rw (is-copy, original i place);
+            stripe = rw (is-copy, original i place);
+            copied = rw is-copy;
+            free = destination-unnamed rank (omega (arith, ranked, fewer));
+          };
+          only = λ k fits f. only-copy k fits (is-twin l r z c (pageIn l v i) (pageIn l d k) f);
         }
 
       copies : Copies l r z (phase 2 c v d)

@@ -10,22 +10,30 @@ use Rattle.units.proofs.Looks.{by-test}
 use Rattle.layout.specs.Layout.{Layout}
 use Rattle.layout.specs.Images.{Images}
 use Rattle.stores.specs.declared.Counts.{Counts}
-use Rattle.stores.specs.Steps.{Step, made, isCut, noCounts, countedAll, applyAll}
-use Rattle.stores.proofs.Totals.{cut-stores}
+use Rattle.stores.specs.Steps.{Step, made, isCut, applyAll}
+use Rattle.stores.proofs.Totals.{totals, counts-are, cut-stores}
 use Rattle.rules.specs.declared.Refusal.{Refusal}
 use Rattle.rules.specs.declared.Check.{Check}
 use Rattle.rules.specs.declared.Check.the-variants.{Passed, Failed}
 use Rattle.rules.specs.declared.Answer.{Answer}
 use Rattle.rules.specs.declared.Answer.the-variants.{Done, Cut, Refused}
-use Rattle.rules.specs.Refusals.{formatCheck, openCheck, writeCheck, commitCheck, collectCheck}
+use Rattle.rules.specs.declared.Reading.the-variants.{Refused as ReadRefused}
+use Rattle.rules.specs.Read.{fetch}
+use Rattle.rules.specs.Book.{Verdict, done, cut, refused}
+use Rattle.rules.specs.Refusals.{formatCheck, openCheck, readCheck, writeCheck, commitCheck, collectCheck}
 use Rattle.rules.specs.Open.{openSteps}
 use Rattle.rules.specs.Collect.{collectSteps}
 use Rattle.rules.specs.Commit.{commitSteps}
 use Rattle.rules.specs.Write.{writeSteps}
 use Rattle.rules.specs.Format.{formatSteps}
-use Rattle.rules.specs.Calls.{Outcome, run, outcome, formatCall, openCall, writeCall, commitCall, collectCall}
+use Rattle.rules.specs.Calls.{Outcome, run, outcome, readInto, formatCall, openCall, readCall, writeCall, commitCall, collectCall}
 
--- what tells answers apart
+-- what tells verdicts and answers apart
+abbrev pub verdictNumber : Verdict → ℕ
+verdictNumber done = 0
+verdictNumber cut = 1
+verdictNumber refused = 2
+
 abbrev kindOf : Answer → ℕ
 kindOf (Done n) = 0
 kindOf (Cut n) = 1
@@ -41,11 +49,10 @@ module _ (l : Layout) where
   pub record CutRule (check : Check) (a : ℕ) (xs : List Step) (s : Images) (o : Outcome) : Type 0 where
     -- "all buffers unchanged"
     pub refusing : (r : Refusal) → check ≡ Failed r → o ≡ record { answer = Refused r; images = s }
-    -- "after a cut the list's first stores, as many as the allowance, stand whole"
-    pub cutting : check ≡ Passed → a < length xs
-        → o ≡ record { answer = Cut (countedAll (made a xs) noCounts); images = applyAll l (made a xs) s }
+    -- "it stops there and answers cut with the counts so far"; "the list's first stores, as many as the allowance, stand whole"
+    pub cutting : check ≡ Passed → a < length xs → o ≡ record { answer = Cut (totals (made a xs)); images = applyAll l (made a xs) s }
     -- "otherwise done"
-    pub finishing : check ≡ Passed → length xs ≤ a → o ≡ record { answer = Done (countedAll xs noCounts); images = applyAll l xs s }
+    pub finishing : check ≡ Passed → length xs ≤ a → o ≡ record { answer = Done (totals xs); images = applyAll l xs s }
     -- "Cut is given in no other case."
     pub only-cut : (n : Counts) → o .answer ≡ Cut n → (check ≡ Passed) × (a < length xs) × (n .stores ≡ a)
 
@@ -63,12 +70,12 @@ module _ (l : Layout) where
   unfolding run
   outcome-rule check a steps s = record {
     refusing = λ r e. rw e;
-    cutting = λ e h. rw (e, lt-ltb a (length (steps s)) h);
-    finishing = λ e h. rw (e, le-ltb a (length (steps s)) h, take-all a (steps s) h);
+    cutting = λ e h. rw (e, lt-ltb a (length (steps s)) h, counts-are (made a (steps s)));
+    finishing = λ e h. rw (e, le-ltb a (length (steps s)) h, take-all a (steps s) h, counts-are (steps s));
     only-cut = cut-only check a steps s;
   }
 
-  -- the five calls that store
+  -- the five calls that store; and a read, which stores nothing
   pub record CutRules : Type 0 where
     pub format : (s : Images) (a : ℕ) → CutRule (formatCheck l s) a (formatSteps l) s (formatCall l s a)
     pub open-call : (s : Images) (lost a : ℕ) → CutRule (openCheck l s lost) a (openSteps l lost s) s (openCall l s lost a)
@@ -76,13 +83,19 @@ module _ (l : Layout) where
         → CutRule (writeCheck l s lost page xs) a (writeSteps l page xs s) s (writeCall l s lost page xs a)
     pub commit : (s : Images) (lost j a : ℕ) → CutRule (commitCheck l s lost j) a (commitSteps l j s) s (commitCall l s lost j a)
     pub collect : (s : Images) (lost c a : ℕ) → CutRule (collectCheck l s lost c) a (collectSteps l c s) s (collectCall l s lost c a)
+    pub read-refusing : (s : Images) (lost page : ℕ) (buffer : List ℕ) (r : Refusal) → readCheck l s lost page buffer ≡ Failed r
+        → readCall l s lost page buffer ≡ record { answer = ReadRefused r; buffer = buffer }
+    pub reading : (s : Images) (lost page : ℕ) (buffer : List ℕ) → readCheck l s lost page buffer ≡ Passed
+        → readCall l s lost page buffer ≡ readInto (fetch l s lost page)
 
   pub cut-rules : CutRules
-  unfolding formatCall openCall writeCall commitCall collectCall
+  unfolding formatCall openCall writeCall commitCall collectCall readCall
   cut-rules = record {
     format = λ s a. outcome-rule (formatCheck l s) a (λ t. formatSteps l) s;
     open-call = λ s lost a. outcome-rule (openCheck l s lost) a (openSteps l lost) s;
     write = λ s lost page xs a. outcome-rule (writeCheck l s lost page xs) a (writeSteps l page xs) s;
     commit = λ s lost j a. outcome-rule (commitCheck l s lost j) a (commitSteps l j) s;
     collect = λ s lost c a. outcome-rule (collectCheck l s lost c) a (collectSteps l c) s;
+    read-refusing = λ s lost page buffer r e. rw e;
+    reading = λ s lost page buffer e. rw e;
   }

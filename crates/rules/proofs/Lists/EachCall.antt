@@ -9,6 +9,7 @@ use lib.Dec.{eqb}
 use borrow.Author.Tests.{ne-eqb}
 use Rattle.units.proofs.Looks.{by-test, by-order}
 use Rattle.layout.specs.Layout.{Layout, noChip}
+use Rattle.layout.specs.Rotation.{stripeOf}
 use Rattle.layout.specs.Images.{Images}
 use Rattle.stores.specs.Steps.{Step, made, applyAll}
 use Rattle.stores.proofs.Prefixes.{Every, every-nil, Closes, closes-leads, closes-weaken}
@@ -22,7 +23,7 @@ use Rattle.rules.proofs.Stores.Kept.{Kept}
 use Rattle.rules.proofs.Data.Carries.{Carries, Wrote, carries-refl, kept-carries}
 use Rattle.rules.proofs.Lists.Finish.{finish-leads}
 use Rattle.rules.proofs.Lists.Collecting.{collect-leads}
-use Rattle.rules.proofs.Lists.Committing.{Committed, commit-closes}
+use Rattle.rules.proofs.Lists.Committing.{StoresRecord, Committed, commit-closes}
 use Rattle.rules.proofs.Lists.Writing.{write-closes}
 
 -- "with a chip lost, no store"
@@ -48,15 +49,15 @@ module _ (l : Layout) (u : Usable l) (s : Images) where
 
   pub commit-every : (j : ℕ) → CommitAccepted l s j → Every l (Carries l s) (commitSteps l j s) s
   commit-every j o =
-      closes-leads l (Carries l) (Committed l j) (Carries l s) (commitSteps l j s) s
-      (closes-weaken l (Kept l) (Carries l) (Committed l j) (commitSteps l j s) s (kept-carries l u s)
+      closes-leads l (Carries l) (Committed l j) (StoresRecord j) (Carries l s) (commitSteps l j s) s
+      (closes-weaken l (Kept l) (Carries l) (Committed l j) (StoresRecord j) (commitSteps l j s) s (kept-carries l u s)
       (commit-closes l u j (o .stripe) s (o .sound) (o .at-rest) (o .slot)))
       (λ t h. h .carries)
       (λ t h. h .carries)
       .along
 
   -- a write, up to its last store and with it
-  pub write-ends : (page : ℕ) (xs : List ℕ) → WriteAccepted l s page xs → Closes l (Carries l) (Wrote l page xs) (writeSteps l page xs s) s
+  pub write-ends : (page : ℕ) (xs : List ℕ) → WriteAccepted l s page xs → Closes l (Carries l) (Wrote l page xs) (StoresRecord (stripeOf l page)) (writeSteps l page xs s) s
   write-ends page xs o = write-closes l u page (o .page) xs (o .whole) s (o .sound) (o .at-rest)
 
   pub write-every : (page : ℕ) (xs : List ℕ) → WriteAccepted l s page xs → Every l (Sound l) (writeSteps l page xs s) s

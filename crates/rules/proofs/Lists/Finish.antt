@@ -23,7 +23,7 @@ use Rattle.rules.specs.Open.{ending, due, moveStep, moveFrom, moveSteps,
 use Rattle.rules.proofs.Soundness.Statements.{Usable, CollectionSound, ChipSound, Sound, sound-chip}
 use Rattle.rules.proofs.Stores.Kept.{Kept, kept-refl, kept-trans}
 use Rattle.rules.proofs.Stores.Moves.{kept-move, move-collection, move-to, move-from, move-other}
-use Rattle.rules.proofs.Stores.Twins.{dueAt, twin-is, due-is, is-due, due-before}
+use Rattle.rules.proofs.Stores.Twins.{dueAt, twin-is, is-twin, due-is, is-due, due-before}
 use Rattle.rules.proofs.Lists.Ending.{BlockErased, ending-leads}
 
 module _ (l : Layout) where
@@ -146,12 +146,12 @@ module _ (l : Layout) (u : Usable l) where
         let one = here .phase-2 busy refl i place n in
         let p = pageIn l (co .victim) i in
         let q = pageIn l (co .destination) (one .place) in
-        let is = twin-is l r x c p q (one .is-twin) in
+        let is = one .is-twin in
         both (dueAt l s (one .place))
         (is-due l co x r q
         (rw (is .copied) (in-own-block l (co .victim) i place))
         (rw (is .copied) n)
-        (rw (is .copied) (one .is-twin)))
+        (rw (is .copied) (is-twin l r x c p q is)))
         (none-due (one .place) (one .fits)))
         (λ n. n)
 

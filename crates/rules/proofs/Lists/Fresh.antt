@@ -25,11 +25,11 @@ use Rattle.stores.proofs.Runs.{apply-append, below-carries}
 use Rattle.stores.proofs.View.{erasedPage, wiped, page-erased, length-erased, length-recorded, record-stored, collection-stored, records-stay}
 use Rattle.rules.specs.Refusals.{formatCheck}
 use Rattle.rules.specs.Calls.{Outcome, formatCall}
-use Rattle.rules.specs.Book.{Verdict, verdict, done, cut, refused}
+use Rattle.rules.specs.Book.{verdict, done}
 use Rattle.rules.specs.Format.{eraseBlock, eraseChip, emptyStripe, formatSteps}
 use Rattle.rules.proofs.Soundness.Checks.{lengths-are}
-use Rattle.rules.proofs.Soundness.Accepted.{by-check, format-accepted}
-use Rattle.rules.proofs.Lists.CutRule.{cut-rules}
+use Rattle.rules.proofs.Soundness.Accepted.{by-check, format-accepted, format-passes}
+use Rattle.rules.proofs.Lists.CutRule.{verdictNumber, cut-rules}
 
 module _ (l : Layout) where
   open Layout l using (N, W, K, B, S, M, D)
@@ -160,12 +160,6 @@ module _ (l : Layout) where
           collection = collection-stored l some (u .records) (r .records) idle idle-fits;
         })
 
--- what tells verdicts apart
-abbrev pub rank : Verdict → ℕ
-rank done = 0
-rank cut = 1
-rank refused = 2
-
 -- a format answered done has images of its geometry, and made its whole list
 format-done : (l : Layout) (s : Images) (a : ℕ) → verdict (formatCall l s a .answer) ≡ done
     → (limits l ≡ true) × (lengths l s ≡ true) × (formatCall l s a .images ≡ applyAll l (formatSteps l) s)
@@ -173,11 +167,11 @@ format-done l s a e =
     let rule = cut-rules l .format s a in
     by-check (formatCheck l s)
     (λ passed. by-order a (length (formatSteps l))
-    (λ less. absurd (omega (arith, ap rank (rw (rule .cutting passed less) at e))))
+    (λ less. absurd (omega (arith, ap verdictNumber (rw (rule .cutting passed less) at e))))
     (λ more.
     let (fit, long) = format-accepted l s passed in
     (fit, long, ap (λ (o : Outcome). o .images) (rule .finishing passed more))))
-    (λ r failed. absurd (omega (arith, ap rank (rw (rule .refusing r failed) at e))))
+    (λ r failed. absurd (omega (arith, ap verdictNumber (rw (rule .refusing r failed) at e))))
 
 -- what a format answered done leaves
 pub format-fresh : (l : Layout) → 1 ≤ l .D → l .D ≤ 4 → (s : Images) (allowance : ℕ) → verdict (formatCall l s allowance .answer) ≡ done
@@ -186,3 +180,9 @@ format-fresh l some narrow s allowance e =
     let (fit, long, is) = format-done l s allowance e in
     let (chips, records, slots) = lengths-are l s long in
     (fit, rw is (formatted l narrow some s chips records slots))
+
+-- and every geometry within the limits has one: an allowance for the whole list is enough
+pub format-finishes : (l : Layout) (s : Images) (a : ℕ) → limits l ≡ true → lengths l s ≡ true → length (formatSteps l) ≤ a
+    → verdict (formatCall l s a .answer) ≡ done
+format-finishes l s a fit long enough =
+    rw (cut-rules l .format s a .finishing (format-passes l s fit long) enough)

@@ -40,7 +40,7 @@ use Rattle.rules.proofs.Data.Entries.{new-partial-length}
 use Rattle.rules.proofs.Space.Room.{PlaceAt, free-slot, stripe-to-commit}
 use Rattle.rules.proofs.Lists.Filling.{fill-kept, fill-new}
 use Rattle.rules.proofs.Lists.Collecting.{placed-closes}
-use Rattle.rules.proofs.Lists.Committing.{Committed, kept-count, commit-closes}
+use Rattle.rules.proofs.Lists.Committing.{StoresRecord, Committed, kept-count, commit-closes}
 
 module _ (l : Layout) where
   open Layout l using (S, M)
@@ -109,13 +109,13 @@ module _ (l : Layout) (u : Usable l) (page : ℕ) (inside : page < l .N * l .S) 
           (record { fits = new .fits; unnamed = new .unnamed; tagged = new .tagged; bytes = new .bytes })
           place free partial-there left
 
-    slot-closes : Closes l (Kept l) (Wrote l page xs) (slotSteps l j m xs p t) t
+    slot-closes : Closes l (Kept l) (Wrote l page xs) (StoresRecord j) (slotSteps l j m xs p t) t
     unfolding slotSteps whenFound
     slot-closes =
         let (i, found, place, free) = slot-found in
         rw found
-        (closes-two l (Kept l) (Wrote l page xs) (record { reads = newPartialReads l m (r j); store = slot i partial }) (plain (stripe j (written l m p i (r j)))) t
-        (kept-refl l t g) (slot-stored i place free) (last i place free))
+        (closes-two l (Kept l) (Wrote l page xs) (StoresRecord j) (record { reads = newPartialReads l m (r j); store = slot i partial }) (plain (stripe j (written l m p i (r j)))) t
+        (kept-refl l t g) (slot-stored i place free) (last i place free) (written l m p i (r j), refl))
 
   -- a slot that is left stays so while nothing changes but places
   kept-left : (s t : Images) → Kept l s t → SlotLeft l j s → SlotLeft l j t
@@ -141,17 +141,17 @@ module _ (l : Layout) (u : Usable l) (page : ℕ) (inside : page < l .N * l .S) 
     unfolding apply
     same-phase = rest
 
-    write-fills : Closes l (Kept l) (Wrote l page xs) (writeAt l j m xs p t) t
+    write-fills : Closes l (Kept l) (Wrote l page xs) (StoresRecord j) (writeAt l j m xs p t) t
     unfolding writeAt
     write-fills =
-        closes-then l (Kept l) (Wrote l page xs) (kept-trans l) kept-wrote (λ w. (w ≡ t₁)) (plain (program c p (dataPage l j m xs)) ∷ []) (slotSteps l j m xs p) t
+        closes-then l (Kept l) (Wrote l page xs) (StoresRecord j) (kept-trans l) kept-wrote (λ w. (w ≡ t₁)) (plain (program c p (dataPage l j m xs)) ∷ []) (slotSteps l j m xs p) t
         (leads-one l (Kept l) (kept-trans l) (λ w. (w ≡ t₁)) (plain (program c p (dataPage l j m xs))) t (kept-refl l t g) first refl)
         (λ w k e. rw e (slot-closes t₁ (first .sound) same-phase (kept-left t t₁ first left) p new-page))
 
   -- from images that are ready: find a place, program it
-  write-placed : (s : Images) → Sound l s → Ready l j s → Closes l (Kept l) (Wrote l page xs) (placed l c (writeAt l j m xs) s) s
+  write-placed : (s : Images) → Sound l s → Ready l j s → Closes l (Kept l) (Wrote l page xs) (StoresRecord j) (placed l c (writeAt l j m xs) s) s
   write-placed s f ready =
-      placed-closes l u s f (ready .rest) c chip (Kept l) (Wrote l page xs) (λ t w k. k) (kept-trans l) kept-wrote (writeAt l j m xs)
+      placed-closes l u s f (ready .rest) c chip (Kept l) (Wrote l page xs) (StoresRecord j) (λ t w k. k) (kept-trans l) kept-wrote (writeAt l j m xs)
       (λ t k still p o. write-fills t (k .sound) still (kept-left s t k (ready .left)) p o)
 
   module _ (s : Images) (f : Sound l s) (rest : collectionAt l (s .records) .phase ≡ 0) where
@@ -176,16 +176,16 @@ module _ (l : Layout) (u : Usable l) (page : ℕ) (inside : page < l .N * l .S) 
         (λ e.
         let (k, found, fits, slotted-too, other) = stripe-to-commit l (u .within) before j e in
         rw (e, found)
-        (closes-leads l (Carries l) (Committed l k) (Ready l j) (commitSteps l k s) s
-        (closes-weaken l (Kept l) (Carries l) (Committed l k) (commitSteps l k s) s (λ t. kept-carries l u s t) (commit-closes l u k fits s f rest slotted-too))
+        (closes-leads l (Carries l) (Committed l k) (StoresRecord k) (Ready l j) (commitSteps l k s) s
+        (closes-weaken l (Kept l) (Carries l) (Committed l k) (StoresRecord k) (commitSteps l k s) s (λ t. kept-carries l u s t) (commit-closes l u k fits s f rest slotted-too))
         (λ t h. h .carries)
         (λ t h. record { rest = h .rest; left = λ none-yet. omega (arith, h .fewer, owed-full e) })))
         (λ e. rw e (leads-nil l (Carries l) (carries-trans l) (Ready l j) s (carries-refl l s f) (record { rest = rest; left = not-owed e })))
 
     -- a write from its first store to its last, with the commit and the collection that it may need
-    pub write-closes : Closes l (Carries l) (Wrote l page xs) (writeSteps l page xs s) s
+    pub write-closes : Closes l (Carries l) (Wrote l page xs) (StoresRecord j) (writeSteps l page xs s) s
     unfolding writeSteps writeMember
     write-closes =
-        closes-then l (Carries l) (Wrote l page xs) (carries-trans l) (carries-wrote l page xs) (Ready l j) (owedSteps l j s) (placed l c (writeAt l j m xs)) s owed-leads
+        closes-then l (Carries l) (Wrote l page xs) (StoresRecord j) (carries-trans l) (carries-wrote l page xs) (Ready l j) (owedSteps l j s) (placed l c (writeAt l j m xs)) s owed-leads
         (λ t k ready.
-        closes-weaken l (Kept l) (Carries l) (Wrote l page xs) (placed l c (writeAt l j m xs) t) t (λ w. kept-carries l u t w) (write-placed t (k .sound) ready))
+        closes-weaken l (Kept l) (Carries l) (Wrote l page xs) (StoresRecord j) (placed l c (writeAt l j m xs) t) t (λ w. kept-carries l u t w) (write-placed t (k .sound) ready))

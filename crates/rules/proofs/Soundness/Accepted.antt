@@ -48,11 +48,11 @@ abbrev checked : Table → Check → Check
 checked [] below = below
 checked ((b, r) ∷ rows) below = unless b r (checked rows below)
 
-abbrev Holds : Table → Type 0
-Holds [] = Unit
-Holds ((b, r) ∷ rows) = (b ≡ true) × Holds rows
+abbrev AllPass : Table → Type 0
+AllPass [] = Unit
+AllPass ((b, r) ∷ rows) = (b ≡ true) × AllPass rows
 
-rows-passed : (rows : Table) (below : Check) → checked rows below ≡ Passed → Holds rows × (below ≡ Passed)
+rows-passed : (rows : Table) (below : Check) → checked rows below ≡ Passed → AllPass rows × (below ≡ Passed)
 rows-passed [] below e = (tt, e)
 rows-passed ((true, r) ∷ rows) below e = let h = rows-passed rows below e in ((refl, h .0), h .1)
 rows-passed ((false, r) ∷ rows) below e = not-passed r e
@@ -99,13 +99,17 @@ module _ (l : Layout) where
   format-accepted s e =
       let h = rows-passed ((limits l, Geometry) ∷ (lengths l s, Buffers) ∷ []) Passed e .0 in (h .0, h .1 .0)
 
+  pub format-passes : (s : Images) → limits l ≡ true → lengths l s ≡ true → formatCheck l s ≡ Passed
+  unfolding formatCheck buffersCheck
+  format-passes s fit long = rw (fit, long)
+
   -- rows 1 to 5
   abbrev imagesRows : Images → ℕ → Table
   imagesRows s lost =
       (limits l, Geometry) ∷ (lengths l s, Buffers) ∷ (lostNamed l lost, LostChip) ∷ (recordsCheck l s, Records) ∷ (sparesCheck l s lost, Spares) ∷ []
 
   images-passed : (s : Images) (lost : ℕ) (rows : Table) → imagesCheck l s lost (checked rows Passed) ≡ Passed
-      → Within l × (lostNamed l lost ≡ true) × SoundBut l lost s × Holds rows
+      → Within l × (lostNamed l lost ≡ true) × SoundBut l lost s × AllPass rows
   unfolding imagesCheck buffersCheck
   images-passed s lost rows e =
       let (h, rest) = rows-passed (imagesRows s lost) (checked rows Passed) e in

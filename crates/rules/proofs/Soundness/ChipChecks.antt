@@ -20,6 +20,7 @@ use Rattle.rules.specs.Names.{mainNumber, sideNumber, kindOn, memberTag,
 use Rattle.rules.specs.Blocks.{cleanIn, cleanBlock, inOrder, orderedBlock, namedIn, unnamedIn}
 use Rattle.rules.specs.Sound.{collecting, taggedPage, taggedNumber, taggedStripe, phase1Sound, twinIn, oneTwin, phase2Sound, chipSound}
 use Rattle.rules.proofs.Soundness.Statements.{Tagged, OneTwin, ChipSound}
+use Rattle.rules.proofs.Stores.Twins.{twin-is, is-twin}
 
 module _ (l : Layout) where
   open Layout l using (K, B, S)
@@ -68,13 +69,20 @@ module _ (l : Layout) where
     one-twin : (destination p : ℕ) → eqb (countBelow K (twinIn l r x c destination p)) 1 ≡ true → OneTwin l r x c destination p
     one-twin destination p t =
         let twins = twinIn l r x c destination p in
-        let (k, fits, is-twin, only) = count-one K twins (eqb-true (countBelow K twins) 1 t) in
-        record { place = k; fits = fits; is-twin = is-twin; only = only }
+        let (k, fits, is, only) = count-one K twins (eqb-true (countBelow K twins) 1 t) in
+        record {
+          place = k;
+          fits = fits;
+          is-twin = twin-is l r x c p (pageIn l destination k) is;
+          only = λ m low f. only m low (is-twin l r x c p (pageIn l destination m) f);
+        }
 
     twin-one : (destination p : ℕ) → OneTwin l r x c destination p → eqb (countBelow K (twinIn l r x c destination p)) 1 ≡ true
     twin-one destination p h =
         let twins = twinIn l r x c destination p in
-        eq-eqb (countBelow K twins) 1 (one-count K twins (h .place) (h .fits) (h .is-twin) (h .only))
+        eq-eqb (countBelow K twins) 1
+        (one-count K twins (h .place) (h .fits) (is-twin l r x c p (pageIn l destination (h .place)) (h .is-twin))
+        (λ m low e. h .only m low (twin-is l r x c p (pageIn l destination m) e)))
 
     phase-2-sound : (victim destination : ℕ) → phase2Sound l r x c victim destination ≡ true
         → (i : ℕ) → i < K → named l r c (pageIn l victim i) ≡ true → OneTwin l r x c destination (pageIn l victim i)

@@ -15,7 +15,7 @@ use Rattle.layout.specs.Images.{Images, chipsLength, recordsLength, slotsLength
 use Rattle.layout.proofs.Limits.{Within}
 use Rattle.rules.specs.Names.{mainNumber, sideNumber, kindOn, memberTag, named}
 use Rattle.rules.specs.Blocks.{cleanIn, cleanBlock}
-use Rattle.rules.specs.Sound.{collecting, twinIn}
+use Rattle.rules.specs.Sound.{collecting}
 
 module _ (l : Layout) where
   open Layout l using (N, K, B, S, M, D)
@@ -84,12 +84,20 @@ module _ (l : Layout) where
     pub kind : x p .kind ≡ kindOn l c j
     pub member : x p .member ≡ memberTag l c j
 
-  -- page p "has exactly one page in the destination", at place k
+  -- page q has "the same kind, member and stripe" as p, is "copied from it and named by no record"
+  pub record IsTwin (r : ℕ → Record) (x : ℕ → Page) (c p q : ℕ) : Type 0 where
+    pub kind : x q .kind ≡ x p .kind
+    pub member : x q .member ≡ x p .member
+    pub stripe : x q .stripe ≡ x p .stripe
+    pub copied : x q .copied ≡ p
+    pub free : named l r c q ≡ false
+
+  -- page p "has exactly one page in the destination" that is its twin
   pub record OneTwin (r : ℕ → Record) (x : ℕ → Page) (c destination p : ℕ) : Type 0 where
     pub place : ℕ
     pub fits : place < K
-    pub is-twin : twinIn l r x c destination p place ≡ true
-    pub only : (k : ℕ) → k < K → twinIn l r x c destination p k ≡ true → k ≡ place
+    pub is-twin : IsTwin r x c p (pageIn l destination place)
+    pub only : (k : ℕ) → k < K → IsTwin r x c p (pageIn l destination k) → k ≡ place
 
   -- one chip c, with its pages x
   pub record ChipSound (r : ℕ → Record) (x : ℕ → Page) (c : ℕ) (co : Collection) : Type 0 where

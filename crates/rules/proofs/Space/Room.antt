@@ -185,6 +185,10 @@ module _ (l : Layout) (w : Within l) where
       (λ d i block other. all-named r x c d i (all-full l x b d fits block other t e) (shut d block)) in
       absurd (omega (arith, w .room, most)))
 
+  -- a slot that passes for free is no record's
+  free-of : (r : ℕ → Record) (i : ℕ) → freeSlot l r i ≡ true → (j : ℕ) → j < S → r j .slot ≢ i
+  free-of r i t j fits = eqb-false (r j .slot) i (some-none S (slotOf r i) (not-true (someBelow S (slotOf r i)) t) j fits)
+
   -- the stripe that has slot i
   user : (ℕ → Record) → ℕ → ℕ
   user r i = whenFound (firstBelow S (slotOf r i)) (λ j. j) 0
@@ -213,8 +217,7 @@ module _ (l : Layout) (w : Within l) where
       by-found (firstBelow (M + 1) (freeSlot l r))
       (λ i e.
       let (low, t, _) = first-at (M + 1) (freeSlot l r) i e in
-      let unused = some-none S (slotOf r i) (not-true (someBelow S (slotOf r i)) t) in
-      (i, e, low, λ j fits. eqb-false (r j .slot) i (unused j fits)))
+      (i, e, low, free-of r i t))
       (λ e. absurd (omega (arith, g .few, all-used r (first-nothing (M + 1) (freeSlot l r) e))))
 
   -- where a commit is owed there is a stripe to commit, and it is another one

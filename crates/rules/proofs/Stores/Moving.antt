@@ -21,10 +21,10 @@ use Rattle.rules.specs.Blocks.{namedIn, unnamedIn}
 use Rattle.rules.specs.Sound.{twin, twinIn, collecting}
 use Rattle.rules.specs.Open.{moved, repointed, due}
 use Rattle.rules.specs.Gather.{bytesAt}
-use Rattle.rules.proofs.Soundness.Statements.{RecordSound, RecordsSound, Tagged, OneTwin, ChipSound}
+use Rattle.rules.proofs.Soundness.Statements.{RecordSound, RecordsSound, Tagged, IsTwin, OneTwin, ChipSound}
 use Rattle.rules.proofs.Stores.Kept.{Copies, Same, same-number}
 use Rattle.rules.proofs.Stores.Names.{by-name, main-names, side-names, not-names, named-by, name-named, unnamed-at, named-none, name-tagged, one-stripe}
-use Rattle.rules.proofs.Stores.Twins.{IsTwin, twin-is, due-is}
+use Rattle.rules.proofs.Stores.Twins.{twin-is, is-twin, due-is}
 use Rattle.rules.proofs.Stores.Repoint.{moved-here, moved-other, by-moved, repointed-bitmap, repointed-slot, repointed-main, repointed-side, repointed-other}
 use Rattle.rules.proofs.Stores.Repoint.{repointed-beyond, repointed-sound}
 
@@ -218,8 +218,8 @@ module _ (l : Layout) (r : ℕ → Record) (x : ℕ → Page) (co : Collection) 
   one-twin a o t = record {
     place = t .place;
     fits = t .fits;
-    is-twin = twin-stays a (t .place) o (t .fits) ∙ t .is-twin;
-    only = λ m h e. t .only m h (sym (twin-stays a m o h) ∙ e);
+    is-twin = twin-is l new x c a (pageIn l d (t .place)) (twin-stays a (t .place) o (t .fits) ∙ is-twin l r x c a (pageIn l d (t .place)) (t .is-twin));
+    only = λ m h f. t .only m h (twin-is l r x c a (pageIn l d m) (sym (twin-stays a m o h) ∙ is-twin l new x c a (pageIn l d m) f));
   }
 
   -- the chip of the collection, and the others

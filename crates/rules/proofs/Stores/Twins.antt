@@ -14,18 +14,11 @@ use Rattle.layout.specs.Images.{Images}
 use Rattle.rules.specs.Names.{named, unnamed}
 use Rattle.rules.specs.Sound.{twin}
 use Rattle.rules.specs.Open.{due}
+use Rattle.rules.proofs.Soundness.Statements.{IsTwin}
 
 module _ (l : Layout) where
-  -- page q is a copy of page p that no record names
-  pub record IsTwin (r : ℕ → Record) (x : ℕ → Page) (c p q : ℕ) : Type 0 where
-    pub kind : x q .kind ≡ x p .kind
-    pub member : x q .member ≡ x p .member
-    pub stripe : x q .stripe ≡ x p .stripe
-    pub copied : x q .copied ≡ p
-    pub free : named l r c q ≡ false
-
-  -- by its test, one way and the other
-  pub twin-is : (r : ℕ → Record) (x : ℕ → Page) (c p q : ℕ) → twin l r x c p q ≡ true → IsTwin r x c p q
+  -- a twin by its test, one way and the other
+  pub twin-is : (r : ℕ → Record) (x : ℕ → Page) (c p q : ℕ) → twin l r x c p q ≡ true → IsTwin l r x c p q
   unfolding twin
   twin-is r x c p q e =
       let h =
@@ -38,7 +31,7 @@ module _ (l : Layout) where
         free = not-true (named l r c q) (h .1 .1 .1 .1 .0);
       }
 
-  pub is-twin : (r : ℕ → Record) (x : ℕ → Page) (c p q : ℕ) → IsTwin r x c p q → twin l r x c p q ≡ true
+  pub is-twin : (r : ℕ → Record) (x : ℕ → Page) (c p q : ℕ) → IsTwin l r x c p q → twin l r x c p q ≡ true
   unfolding twin
   is-twin r x c p q f =
       rw (

@@ -1,0 +1,36 @@
+-- "Cost is N − p or p + 1": no commit reads more pages than its cost.
+use Prim.Native.Nat.{ℕ, _≤_}
+use native.Mathlib.Omega.{arith}
+use mathlib.Core.Path.{_≡_, refl}
+use mathlib.Core.Bool.{true, false}
+use borrow.Author.Tests.{eq-eqb}
+use Rattle.units.proofs.Looks.{by-test, both}
+use Rattle.units.proofs.Counts.{count-apart, count-implies}
+use Rattle.layout.specs.Layout.{Layout, none, isNone}
+use Rattle.layout.specs.Record.{Record, bit}
+use Rattle.rules.specs.Gather.{readsAt, isPage, gatheredReads}
+use Rattle.rules.specs.Commit.{setBits, mostInPartial, costOf, currentOutside, oldInside, newParityReads}
+
+module _ (l : Layout) where
+  open Layout l using (N)
+
+  -- a page number of none is no read
+  reads-one : (p : ℕ) → readsAt l p ≤ 1
+  unfolding readsAt
+  reads-one p = by-test (isNone l p) (λ t. rw t (omega arith)) (λ t. rw t (omega arith))
+
+  -- of a set member no current page is read, and of a clear one no old page
+  no-current : (r : Record) (m : ℕ) → isPage l (currentOutside l r) m ≡ true → bit r m ≡ false
+  unfolding currentOutside
+  no-current r m e = by-test (bit r m) (λ t. both false (rw (t, eq-eqb (none l) (none l) refl) at e) refl) (λ t. t)
+
+  no-old : (r : Record) (m : ℕ) → isPage l (oldInside l r) m ≡ true → bit r m ≡ true
+  unfolding oldInside
+  no-old r m e = by-test (bit r m) (λ t. t) (λ t. both false (rw (t, eq-eqb (none l) (none l) refl) at e) refl)
+
+  pub commit-reads : (r : Record) → newParityReads l r ≤ costOf l (setBits l r)
+  unfolding newParityReads costOf gatheredReads setBits
+  commit-reads r =
+      by-test (mostInPartial l (setBits l r))
+      (λ t. rw t (omega (arith, count-apart N (isPage l (currentOutside l r)) (bit r) (λ m h. no-current r m))))
+      (λ t. rw t (omega (arith, reads-one (r .parity), count-implies N (isPage l (oldInside l r)) (bit r) (λ m h. no-old r m))))
