@@ -26,7 +26,7 @@ use Rattle.layout.proofs.Pages.{none-fits}
 use Rattle.stores.specs.Store.{program, slot, stripe, apply}
 use Rattle.stores.specs.Steps.{plain}
 use Rattle.stores.proofs.Prefixes.{Leads, leads-nil, leads-one, Closes, closes-two, closes-then, closes-leads, closes-weaken}
-use Rattle.rules.specs.Write.{commitOwed, owedSteps, dataPage, lowestFreeSlot, newPartial, newPartialReads, written, slotSteps, writeAt, writeMember, writeSteps}
+use Rattle.rules.specs.Write.{commitOwed, owedSteps, dataPage, lowestFreeSlot, newPartial, written, slotSteps, writeAt, writeMember, writeSteps}
 use Rattle.rules.specs.Commit.{commitSteps}
 use Rattle.rules.specs.Place.{placed}
 use Rattle.rules.proofs.Soundness.Statements.{Usable, Sound}
@@ -114,7 +114,7 @@ module _ (l : Layout) (u : Usable l) (page : ℕ) (inside : page < l .N * l .S) 
     slot-closes =
         let (i, found, place, free) = slot-found in
         rw found
-        (closes-two l (Kept l) (Wrote l page xs) (StoresRecord j) (record { reads = newPartialReads l m (r j); store = slot i partial }) (plain (stripe j (written l m p i (r j)))) t
+        (closes-two l (Kept l) (Wrote l page xs) (StoresRecord j) _ _ t
         (kept-refl l t g) (slot-stored i place free) (last i place free) (written l m p i (r j), refl))
 
   -- a slot that is left stays so while nothing changes but places
