@@ -78,7 +78,7 @@ module _ (l : Layout) (w : Within l) where
   pub chip-there : (j m : ℕ) → m < N → memberChip l j m ≢ noChip
   chip-there j m h = omega (arith, w .members-high, member-chip-fits l j m h)
 
-  -- the stripe and the member of a page
+  -- the stripe, the member and the chip of a logical page
   members : 0 < N
   members = omega (arith, w .members-low)
 
@@ -87,3 +87,6 @@ module _ (l : Layout) (w : Within l) where
 
   pub member-fits : (i : ℕ) → memberOf l i < N
   member-fits i = mod-lt i members
+
+  pub page-chip-fits : (i : ℕ) → memberChip l (stripeOf l i) (memberOf l i) < N + 1
+  page-chip-fits i = member-chip-fits l (stripeOf l i) (memberOf l i) (member-fits i)

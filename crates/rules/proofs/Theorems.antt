@@ -38,7 +38,7 @@ use Rattle.rules.specs.Read.{fetch}
 use Rattle.rules.specs.Calls.{ReadOutcome, run, outcome, formatCall, readCall, writeCall}
 use Rattle.rules.specs.Book.{Verdict, done, cut, refused, verdict}
 use Rattle.rules.specs.Demand.{Demand3}
-use Rattle.rules.proofs.Soundness.Statements.{Usable, RecordsSound, ChipSound, SoundBut, Sound, sound-chip}
+use Rattle.rules.proofs.Soundness.Statements.{Usable, RecordsSound, ChipSound, SoundBut, Sound, sound-chip, rest-collects}
 use Rattle.rules.proofs.Soundness.Checks.{lengths-are, images-sound, lengths-pass, records-check-pass, spares-check-pass}
 use Rattle.rules.proofs.Soundness.Accepted.{open-accepted, read-passes, WriteAccepted, write-accepted, write-passes, commit-accepted, collect-accepted}
 use Rattle.rules.proofs.Soundness.RecordChecks.{records-sound, records-pass}
@@ -46,7 +46,7 @@ use Rattle.rules.proofs.Soundness.ChipChecks.{chip-sound, chip-pass}
 use Rattle.rules.proofs.Data.Carries.{Wrote}
 use Rattle.rules.proofs.Space.Room.{victim-found, free-slot, stripe-to-commit}
 use Rattle.rules.proofs.Lists.Fresh.{formatted, format-finishes}
-use Rattle.rules.proofs.Lists.Collecting.{still, destination, collect-leads}
+use Rattle.rules.proofs.Lists.Collecting.{destination, collect-leads}
 use Rattle.rules.proofs.Lists.EachCall.{open-lost, open-every, collect-every, commit-every, write-ends, write-every}
 use Rattle.rules.proofs.Lists.CutRule.{verdictNumber, CutRules, cut-rules}
 use Rattle.rules.proofs.Lists.FreshSound.{fresh-sound}
@@ -150,11 +150,11 @@ module _ (l : Layout) (some : 1 ≤ l .D) (narrow : l .D ≤ 4) where
         fresh-sound l (within l fit) (applyAll l (formatSteps l) s) (formatted l narrow some s (n .0) (n .1) (n .2));
     open-call = open-kept;
     write = λ s lost page xs passed.
-        let o = write-accepted l s lost page xs passed .1 in write-every l (usable (o .within)) s page xs o;
+        let o = write-accepted l s lost page xs passed .1 in write-every l (usable (o .settled .within)) s page xs o;
     commit = λ s lost j passed k.
-        let o = commit-accepted l s lost j passed .1 in commit-every l (usable (o .within)) s j o k .sound;
+        let o = commit-accepted l s lost j passed .1 in commit-every l (usable (o .settled .within)) s j o k .sound;
     collect = λ s lost c passed k.
-        let o = collect-accepted l s lost c passed .1 in collect-every l (usable (o .within)) s c o k .sound;
+        let o = collect-accepted l s lost c passed .1 in collect-every l (usable (o .settled .within)) s c o k .sound;
   }
 
   pub room-in : Within l → (s : Images) → Sound l s → collectionAt l (s .records) .phase ≡ 0 → RoomIn l s
@@ -163,14 +163,14 @@ module _ (l : Layout) (some : 1 ≤ l .D) (narrow : l .D ≤ 4) where
         let chip′ : c < N + 1 = omega arith in
         let (v, victim) =
         victim-found l w (recordAt l (s .records)) (pageAt l (s .chips) c) c (collectionAt l (s .records)) chip′ (f .stripes) (sound-chip l (usable w) s f c chip′)
-        (still l (usable w) s c rest) nowhere in
+        (rest-collects (collectionAt l (s .records)) c rest) nowhere in
         let after = collect-leads l (usable w) s f rest c chip′ v victim .ends in
         (v, victim, after .place, after .found);
     destination = λ c chip. destination l (usable w) s f rest c (omega arith);
     slot = let free = free-slot l w (recordAt l (s .records)) (collectionAt l (s .records)) (f .stripes) in (free .0, free .1);
     stripe = λ j owed. let least = stripe-to-commit l w (recordAt l (s .records)) j owed in (least .0, least .1);
     accepted = λ page xs inside whole.
-        write-passes l s page xs (record { within = w; sound = f; at-rest = rest; page = inside; whole = whole });
+        write-passes l s page xs (record { settled = record { within = w; sound = f; at-rest = rest }; page = inside; whole = whole });
     writes = λ page xs inside whole. let c = write-closes l (usable w) page inside xs whole s f rest in (c .last, c .whole);
     commits = λ j fits has. let c = commit-closes l (usable w) j fits s f rest has in (c .last, c .whole);
   }
@@ -197,22 +197,22 @@ module _ (l : Layout) (some : 1 ≤ l .D) (narrow : l .D ≤ 4) where
     module _ (o : WriteAccepted l s page xs) where
       cut-back : (a : ℕ) → a < length (writeSteps l page xs s) → ReadsBack l s page xs cut (applyAll l (made a (writeSteps l page xs s)) s)
       cut-back a less =
-          let c = write-ends l (usable (o .within)) s page xs o .cut a less in
+          let c = write-ends l (usable (o .settled .within)) s page xs o .cut a less in
           record {
             here = λ e. absurd (omega (arith, ap verdictNumber e));
             elsewhere = λ e. absurd (omega (arith, ap verdictNumber e));
             cut-short = λ e i inside.
-                read-as (o .within) s (applyAll l (made a (writeSteps l page xs s)) s) (o .sound) (c .sound) i inside (c .reads (no-copies-at-rest l s (o .at-rest)) i inside);
+                read-as (o .settled .within) s (applyAll l (made a (writeSteps l page xs s)) s) (o .settled .sound) (c .sound) i inside (c .reads (no-copies-at-rest l s (o .settled .at-rest)) i inside);
           }
 
       done-back : ReadsBack l s page xs done (applyAll l (writeSteps l page xs s) s)
       done-back =
           let t = applyAll l (writeSteps l page xs s) s in
-          let w = write-ends l (usable (o .within)) s page xs o .whole in
+          let w = write-ends l (usable (o .settled .within)) s page xs o .whole in
           record {
-            here = λ e. rw (w .here) at (sound-reads (o .within) t (w .sound) page (o .page));
+            here = λ e. rw (w .here) at (sound-reads (o .settled .within) t (w .sound) page (o .page));
             elsewhere = λ e i inside other.
-                read-as (o .within) s t (o .sound) (w .sound) i inside (w .elsewhere (no-copies-at-rest l s (o .at-rest)) i inside other);
+                read-as (o .settled .within) s t (o .settled .sound) (w .sound) i inside (w .elsewhere (no-copies-at-rest l s (o .settled .at-rest)) i inside other);
             cut-short = λ e. absurd (omega (arith, ap verdictNumber e));
           }
 

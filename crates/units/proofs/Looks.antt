@@ -208,17 +208,3 @@ least-at (suc n) f m i e = least-step n f m (least-at n f m) i e
 
 pub least-found : (n : ℕ) (f : ℕ → Bool) (m : ℕ → ℕ) (i : ℕ) → i < n → f i ≡ true → (k : ℕ) × (leastBelow n f m ≡ At k)
 least-found n f m i h t = by-found (leastBelow n f m) (λ k q. (k, q)) (λ q. both (f i) t (least-nothing n f m q i h))
-
-pub least-unique : (n : ℕ) (f : ℕ → Bool) (m : ℕ → ℕ) (i j : ℕ) → IsLeast n f m i → IsLeast n f m j → i ≡ j
-least-unique n f m i j l r = by-three i j
-    (λ b. absurd (omega (arith, r .3 i b (l .1), l .2 j (r .0) (r .1))))
-    (λ q. q)
-    (λ b. absurd (omega (arith, l .3 j b (r .1), r .2 i (l .0) (l .1))))
-
-pub least-is : (n : ℕ) (f : ℕ → Bool) (m : ℕ → ℕ) (i : ℕ) → IsLeast n f m i → leastBelow n f m ≡ At i
-least-is n f m i l =
-    let (k, e) = least-found n f m i (l .0) (l .1) in
-    e ∙ ap At (least-unique n f m k i (least-at n f m k e) l)
-
-pub least-none : (n : ℕ) (f : ℕ → Bool) (m : ℕ → ℕ) → ((i : ℕ) → i < n → f i ≡ false) → leastBelow n f m ≡ Nothing
-least-none n f m h = by-found (leastBelow n f m) (λ i q. let l = least-at n f m i q in both (f i) (l .1) (h i (l .0))) (λ q. q)

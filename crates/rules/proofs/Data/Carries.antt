@@ -13,7 +13,7 @@ use Rattle.layout.specs.Page.{Page, pageAt}
 use Rattle.layout.specs.Record.{Record, bit, hasSlot, recordAt}
 use Rattle.layout.specs.Images.{Images, slotAt}
 use Rattle.layout.proofs.Limits.{Within}
-use Rattle.layout.proofs.Rotations.{parity-chip-fits, member-chip-fits, stripe-fits, member-fits}
+use Rattle.layout.proofs.Rotations.{parity-chip-fits, member-chip-fits, stripe-fits, page-chip-fits}
 use Rattle.layout.proofs.Records.{same-bit, same-slotted}
 use Rattle.rules.specs.Names.{mainNumber, sideNumber}
 use Rattle.rules.specs.Gather.{bytesAt}
@@ -162,5 +162,5 @@ module _ (l : Layout) where
         let m = memberOf l i in
         same-read (u .within) s t i
         (rw (main-member l j m (recordAt l (s .records) j), main-member l j m (recordAt l (t .records) j))
-        at (k .main c (memberChip l j m) j (member-chip-fits l j m (member-fits l (u .within) i)) (stripe-fits l (u .within) i h)));
+        at (k .main c (memberChip l j m) j (page-chip-fits l (u .within) i) (stripe-fits l (u .within) i h)));
   }

@@ -28,8 +28,8 @@ use Rattle.rules.specs.Write.{newPartial, written}
 use Rattle.rules.proofs.Soundness.Statements.{Numbered, MemberSound, RecordSound, Tagged, Sound, sound-member}
 use Rattle.rules.proofs.Stores.Names.{main-member, side-member, main-parity, side-parity, by-chip}
 use Rattle.rules.proofs.Stores.Stays.{stays-same, member-same}
-use Rattle.rules.proofs.Data.Contents.{underParity, numbered-none, numbered-cond, length-bytes-most, length-gathered, pages-whole, slot-whole, slot-bits}
-use Rattle.rules.proofs.Data.Parity.{written-bit, written-bit-other, written-current, written-current-other, written-old, written-old-other}
+use Rattle.rules.proofs.Data.Contents.{underParity, numbered-none, length-bytes-most, length-gathered, pages-whole, slot-whole, slot-bits}
+use Rattle.rules.proofs.Data.Parity.{written-bit, written-bit-other, written-current, written-current-other, written-old, written-old-other, numbered-outside, numbered-under-parity, numbered-old}
 
 module _ (l : Layout) where
   open Layout l using (N, W, S, M)
@@ -77,10 +77,6 @@ module _ (l : Layout) where
 
     -- ---- write
 
-    under-parity-numbered : (m : ℕ) → m < N → Numbered l (underParity l r m)
-    unfolding underParity
-    under-parity-numbered m h = numbered-cond l (bit r m) (r .old m) (r .current m) (sound-member l w r f m h .old) (sound-member l w r f m h .current)
-
     -- what the parity holds of a member needs a parity page
     under-parity-needs : (m : ℕ) → m < N → underParity l r m ≢ none l → r .parity ≢ none l
     unfolding underParity
@@ -91,7 +87,7 @@ module _ (l : Layout) where
       written-here : MemberSound l (written l m p i r) m
       written-here = record {
         current = rw (written-current l m p i r) (λ d. page);
-        old = rw (written-old l m p i r) (under-parity-numbered m h);
+        old = rw (written-old l m p i r) (numbered-under-parity l w r f m h);
         beyond = λ b. absurd (omega arith);
         old-under-bit = λ d. written-bit l m p i r;
         current-under-bit = λ t. rw (written-current l m p i r, written-old l m p i r) (page-number l w p page, fresh);
@@ -188,15 +184,8 @@ module _ (l : Layout) where
     length-slot : hasSlot r ≡ true → length (slotAt l (s .slots) (r .slot)) ≡ W
     length-slot t = slot-whole l s (f .slots) (r .slot) (omega (arith, sound .slot (slot-bits l r sound t)))
 
-    length-outside : length (gathered l y j (currentOutside l r)) ≤ W
-    unfolding currentOutside
-    length-outside = length-gathered l y j (pages-whole l s (f .chips)) (currentOutside l r)
-        (λ m h. numbered-cond l (bit r m) (none l) (r .current m) (numbered-none l) (sound-member l w r sound m h .current))
-
-    length-old : length (gathered l y j (oldInside l r)) ≤ W
-    unfolding oldInside
-    length-old = length-gathered l y j (pages-whole l s (f .chips)) (oldInside l r)
-        (λ m h. numbered-cond l (bit r m) (r .old m) (none l) (sound-member l w r sound m h .old) (numbered-none l))
+    short : (g : ℕ → ℕ) → ((m : ℕ) → m < N → Numbered l (g m)) → length (gathered l y j g) ≤ W
+    short = length-gathered l y j (pages-whole l s (f .chips))
 
     -- both are W bytes long
     pub new-parity-length : hasSlot r ≡ true → length (newParity l y (slotAt l (s .slots)) j r) ≡ W
@@ -206,10 +195,10 @@ module _ (l : Layout) where
         let parity = bytesAt l y (parityChip l j) (r .parity) in
         let old = gathered l y j (oldInside l r) in
         by-test (mostInPartial l (setBits l r))
-        (λ e. rw e (length-xors-left x (gathered l y j (currentOutside l r)) (omega (arith, length-slot t, length-outside)) ∙ length-slot t))
+        (λ e. rw e (length-xors-left x (gathered l y j (currentOutside l r)) (omega (arith, length-slot t, short (currentOutside l r) (numbered-outside l w r sound))) ∙ length-slot t))
         (λ e. rw e
         (length-xors-left x (parity ⊕ old)
-        (omega (arith, length-slot t, length-xors parity old, length-old, length-bytes-most l y (pages-whole l s (f .chips)) (parityChip l j) (r .parity) (parity-chip-fits l j) (sound .parity)))
+        (omega (arith, length-slot t, length-xors parity old, short (oldInside l r) (numbered-old l w r sound), length-bytes-most l y (pages-whole l s (f .chips)) (parityChip l j) (r .parity) (parity-chip-fits l j) (sound .parity)))
         ∙ length-slot t))
 
   pub new-partial-length : Within l → (s : Images) (j m : ℕ) (xs : List ℕ) → Sound l s → j < S → m < N → length xs ≡ W

@@ -127,7 +127,15 @@ module _ (l : Layout) (w : Within l) (r : Record) (f : RecordSound l r) where
   unfolding currentInside
   numbered-inside m h = numbered-cond l (bit r m) (r .current m) (none l) (sound-member l w r f m h .current) (numbered-none l)
 
-  numbered-old : (m : ℕ) → m < N → Numbered l (oldInside l r m)
+  pub numbered-outside : (m : ℕ) → m < N → Numbered l (currentOutside l r m)
+  unfolding currentOutside
+  numbered-outside m h = numbered-cond l (bit r m) (none l) (r .current m) (numbered-none l) (sound-member l w r f m h .current)
+
+  pub numbered-under-parity : (m : ℕ) → m < N → Numbered l (underParity l r m)
+  unfolding underParity
+  numbered-under-parity m h = numbered-cond l (bit r m) (r .old m) (r .current m) (sound-member l w r f m h .old) (sound-member l w r f m h .current)
+
+  pub numbered-old : (m : ℕ) → m < N → Numbered l (oldInside l r m)
   unfolding oldInside
   numbered-old m h = numbered-cond l (bit r m) (r .old m) (none l) (sound-member l w r f m h .old) (numbered-none l)
 

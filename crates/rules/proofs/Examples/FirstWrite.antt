@@ -17,7 +17,7 @@ use Rattle.layout.specs.Page.{pageAt}
 use Rattle.layout.specs.Record.{slotted, slotOf, emptyRecord, recordAt}
 use Rattle.layout.specs.Images.{Images}
 use Rattle.layout.proofs.Limits.{within}
-use Rattle.layout.proofs.Rotations.{member-chip-fits, stripe-fits, member-fits}
+use Rattle.layout.proofs.Rotations.{stripe-fits, page-chip-fits}
 use Rattle.stores.specs.Store.{program, slot, stripe, apply}
 use Rattle.stores.specs.Steps.{plain, andThen, applyAll, noCounts, counted, countedAll}
 use Rattle.stores.proofs.View.{erased-clean}
@@ -98,14 +98,11 @@ module _ (l : Layout) (u : Usable l) (s : Images) (f : Fresh l s) where
     stripe-inside : j < S
     stripe-inside = stripe-fits l (u .within) i page
 
-    chip-fits : chip < N + 1
-    chip-fits = member-chip-fits l j m (member-fits l (u .within) i)
-
     -- a write of it is three stores: the page, the slot, the record
     pub three-stores : (xs : List ℕ) → writeSteps l i xs s
         ≡ plain (program chip (pageIn l 0 0) (dataPage l j m xs)) ∷ plain (slot 0 xs) ∷ plain (stripe j (written l m (pageIn l 0 0) 0 (emptyRecord l))) ∷ []
     unfolding writeSteps writeMember andThen applyAll apply atPlace placed whenFound writeAt slotSteps newPartial newPartialReads emptyRecord
-    three-stores xs = rw (no-commit-owed j stripe-inside, first-place chip chip-fits, lowest-slot, f .stripe j stripe-inside)
+    three-stores xs = rw (no-commit-owed j stripe-inside, first-place chip (page-chip-fits l (u .within) i), lowest-slot, f .stripe j stripe-inside)
 
     -- a read of it, while the records are as they were: zeros, and no page is read for them
     zeros : (t : Images) → Sound l t → t .records ≡ s .records → (buffer : List ℕ) → length buffer ≡ W
@@ -123,9 +120,7 @@ module _ (l : Layout) (u : Usable l) (s : Images) (f : Fresh l s) where
       -- the write is not refused, and makes its list
       accepted : WriteAccepted l s i xs
       accepted = record {
-        within = u .within;
-        sound = fresh-sound l (u .within) s f;
-        at-rest = rw (f .collection);
+        settled = record { within = u .within; sound = fresh-sound l (u .within) s f; at-rest = rw (f .collection) };
         page = page;
         whole = whole;
       }

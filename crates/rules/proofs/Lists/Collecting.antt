@@ -2,7 +2,6 @@
 use Prim.Native.Nat.{ℕ, _+_, _<_}
 use mathlib.Core.Path.{_≡_, ap}
 use mathlib.Core.Logic.{_≢_}
-use mathlib.Core.Bool.{false}
 use mathlib.Core.List.{List, []}
 use borrow.Author.Tests.{not-true}
 use Rattle.units.specs.declared.Found.the-variants.{At}
@@ -19,11 +18,10 @@ use Rattle.stores.proofs.View.{wiped}
 use Rattle.stores.proofs.Prefixes.{Leads, leads-then, leads-weaken, Closes, closes-then}
 use Rattle.rules.specs.Names.{named}
 use Rattle.rules.specs.Blocks.{cleanIn, usedIn, unnamedIn, cleanBlock, fullBlock, lowestCleanBlock}
-use Rattle.rules.specs.Sound.{collecting}
 use Rattle.rules.specs.Collect.{collectable, namedCount, victimOf, copySteps, collectSteps}
 use Rattle.rules.specs.Open.{finishSteps}
 use Rattle.rules.specs.Place.{placeOf, atPlace, placed}
-use Rattle.rules.proofs.Soundness.Statements.{Usable, ChipSound, Sound, sound-chip}
+use Rattle.rules.proofs.Soundness.Statements.{Usable, ChipSound, Sound, sound-chip, rest-collects}
 use Rattle.rules.proofs.Stores.Kept.{Kept, kept-refl, kept-trans}
 use Rattle.rules.proofs.Stores.Chips.{wiped-clean, wiped-other}
 use Rattle.rules.proofs.Space.Room.{PlaceAt, place-at, place-found, victim-found}
@@ -40,10 +38,6 @@ module _ (l : Layout) where
 module _ (l : Layout) (u : Usable l) where
   open Layout l using (N, K, B)
 
-  -- with phase 0 no chip is being collected
-  pub still : (s : Images) (c : ℕ) → collectionAt l (s .records) .phase ≡ 0 → collecting (collectionAt l (s .records)) c ≡ false
-  still s c e = rw e
-
   module _ (s : Images) (f : Sound l s) (rest : collectionAt l (s .records) .phase ≡ 0) (c : ℕ) (chip : c < N + 1) where
     abbrev r : ℕ → Record
     r = recordAt l (s .records)
@@ -58,7 +52,7 @@ module _ (l : Layout) (u : Usable l) where
     pub destination : (d : ℕ) × (lowestCleanBlock l x ≡ At d)
     unfolding lowestCleanBlock
     destination =
-        let (b, fits, is) = here .spare (still s c rest) in
+        let (b, fits, is) = here .spare (rest-collects (collectionAt l (s .records)) c rest) in
         first-found B (cleanBlock l x) b fits is
 
     module _ (v : ℕ) (victim : victimOf l c x r ≡ At v) where
@@ -115,7 +109,7 @@ module _ (l : Layout) (u : Usable l) where
           rw (h .found)
           (fills t k (h .rest) (h .place)
           (place-at l (u .within) (recordAt l (t .records)) (pageAt l (t .chips) c) c (collectionAt l (t .records)) (sound-chip l u t (k .sound) c chip)
-          (still t c (h .rest)) (h .place) (h .found)))
+          (rest-collects (collectionAt l (t .records)) c (h .rest)) (h .place) (h .found)))
 
       -- with no place there is a victim, and after its collection there is a place
       collected : (v : ℕ) → victimOf l c x r ≡ At v → Closes l R F L (andThen l (collectSteps l c s) (atPlace l c fill []) s) s
@@ -130,5 +124,5 @@ module _ (l : Layout) (u : Usable l) where
       placed-closes = by-found (placeOf l x)
           (λ p e. at-place s (kept-refl l s f) (record { rest = rest; place = p; found = e }) (andThen l (collectSteps l c s) (atPlace l c fill []) s))
           (λ e.
-          let (v, victim) = victim-found l (u .within) r x c (collectionAt l (s .records)) chip (f .stripes) here (still s c rest) e in
+          let (v, victim) = victim-found l (u .within) r x c (collectionAt l (s .records)) chip (f .stripes) here (rest-collects (collectionAt l (s .records)) c rest) e in
           rw e (collected v victim))

@@ -29,7 +29,8 @@ use Rattle.rules.specs.Sound.{collecting, twinIn}
 use Rattle.rules.specs.Collect.{phase, copyOf, copyFrom, copySteps}
 use Rattle.rules.proofs.Soundness.Statements.{Usable, CollectionSound, ChipSound, OneTwin, Sound, sound-chip}
 use Rattle.rules.proofs.Stores.Names.{named-by, name-tagged, named-used, clean-block-unnamed}
-use Rattle.rules.proofs.Stores.Kept.{Copies, Kept, kept-refl, kept-trans, Fillable, no-copies-yet}
+use Rattle.rules.proofs.Stores.Chips.{Fillable}
+use Rattle.rules.proofs.Stores.Kept.{Copies, Kept, kept-refl, kept-trans, no-copies-yet}
 use Rattle.rules.proofs.Stores.Twins.{twin-is, is-twin}
 use Rattle.rules.proofs.Stores.Storing.{kept-program, kept-collection, program-view, collection-view, collection-records}
 use Rattle.rules.proofs.Data.Contents.{pages-whole}

@@ -45,20 +45,20 @@ module _ (l : Layout) (u : Usable l) (s : Images) where
   pub collect-every : (c : ℕ) → CollectAccepted l s c → Every l (Carries l s) (collectSteps l c s) s
   collect-every c o =
       let (v, victim) = o .victim in
-      all-carried (collectSteps l c s) (collect-leads l u s (o .sound) (o .at-rest) c (o .chip) v victim .along)
+      all-carried (collectSteps l c s) (collect-leads l u s (o .settled .sound) (o .settled .at-rest) c (o .chip) v victim .along)
 
   pub commit-every : (j : ℕ) → CommitAccepted l s j → Every l (Carries l s) (commitSteps l j s) s
   commit-every j o =
       closes-leads l (Carries l) (Committed l j) (StoresRecord j) (Carries l s) (commitSteps l j s) s
       (closes-weaken l (Kept l) (Carries l) (Committed l j) (StoresRecord j) (commitSteps l j s) s (kept-carries l u s)
-      (commit-closes l u j (o .stripe) s (o .sound) (o .at-rest) (o .slot)))
+      (commit-closes l u j (o .stripe) s (o .settled .sound) (o .settled .at-rest) (o .slot)))
       (λ t h. h .carries)
       (λ t h. h .carries)
       .along
 
   -- a write, up to its last store and with it
   pub write-ends : (page : ℕ) (xs : List ℕ) → WriteAccepted l s page xs → Closes l (Carries l) (Wrote l page xs) (StoresRecord (stripeOf l page)) (writeSteps l page xs s) s
-  write-ends page xs o = write-closes l u page (o .page) xs (o .whole) s (o .sound) (o .at-rest)
+  write-ends page xs o = write-closes l u page (o .page) xs (o .whole) s (o .settled .sound) (o .settled .at-rest)
 
   pub write-every : (page : ℕ) (xs : List ℕ) → WriteAccepted l s page xs → Every l (Sound l) (writeSteps l page xs s) s
   write-every page xs o k = by-order k (length (writeSteps l page xs s))

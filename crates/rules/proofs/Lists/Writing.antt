@@ -20,7 +20,7 @@ use Rattle.layout.specs.Record.{Record, hasSlot, slotted, recordAt}
 use Rattle.layout.specs.Collection.{collectionAt}
 use Rattle.layout.specs.Images.{Images, slotAt}
 use Rattle.layout.proofs.Codec.{PageFits}
-use Rattle.layout.proofs.Rotations.{member-chip-fits, stripe-fits, member-fits}
+use Rattle.layout.proofs.Rotations.{stripe-fits, member-fits, page-chip-fits}
 use Rattle.layout.proofs.Records.{same-slotted}
 use Rattle.layout.proofs.Pages.{none-fits}
 use Rattle.stores.specs.Store.{program, slot, stripe, apply}
@@ -73,7 +73,7 @@ module _ (l : Layout) (u : Usable l) (page : ℕ) (inside : page < l .N * l .S) 
   member-inside = member-fits l (u .within) page
 
   chip : c < N + 1
-  chip = member-chip-fits l j m member-inside
+  chip = page-chip-fits l (u .within) page
 
   kept-wrote : (s t v : Images) → Kept l s t → Wrote l page xs t v → Wrote l page xs s v
   kept-wrote s t v k = carries-wrote l page xs s t v (kept-carries l u s t k)

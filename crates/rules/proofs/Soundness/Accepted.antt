@@ -72,24 +72,24 @@ module _ (l : Layout) where
     pub page : i < N * S
     pub whole : length buffer ≡ W
 
-  pub record WriteAccepted (s : Images) (i : ℕ) (xs : List ℕ) : Type 0 where
+  -- what write, commit and collect rely on alike: no chip is lost, and no collection is under way
+  pub record Settled (s : Images) : Type 0 where
     pub within : Within l
     pub sound : Sound l s
     pub at-rest : collectionAt l (s .records) .phase ≡ 0
+
+  pub record WriteAccepted (s : Images) (i : ℕ) (xs : List ℕ) : Type 0 where
+    pub settled : Settled s
     pub page : i < N * S
     pub whole : length xs ≡ W
 
   pub record CommitAccepted (s : Images) (j : ℕ) : Type 0 where
-    pub within : Within l
-    pub sound : Sound l s
-    pub at-rest : collectionAt l (s .records) .phase ≡ 0
+    pub settled : Settled s
     pub stripe : j < S
     pub slot : hasSlot (recordAt l (s .records) j) ≡ true
 
   pub record CollectAccepted (s : Images) (c : ℕ) : Type 0 where
-    pub within : Within l
-    pub sound : Sound l s
-    pub at-rest : collectionAt l (s .records) .phase ≡ 0
+    pub settled : Settled s
     pub chip : c < N + 1
     pub victim : (b : ℕ) × (victimOf l c (pageAt l (s .chips) c) (recordAt l (s .records)) ≡ At b)
 
@@ -137,12 +137,10 @@ module _ (l : Layout) where
       images-pass (h .within) s lost (h .named) (h .sound) (checked (readRows page buffer) Passed)
       ∙ rw (lt-ltb page (N * S) (h .page), eq-eqb (length buffer) W (h .whole))
 
-  -- what write, commit and collect share: no collection is under way, and no chip is lost
-  rests : (s : Images) → atRest l s ≡ true → collectionAt l (s .records) .phase ≡ 0
-  rests s = eqb-true (collectionAt l (s .records) .phase) 0
-
-  whole-set : (s : Images) (lost : ℕ) → eqb lost noChip ≡ true → SoundBut l lost s → (lost ≡ noChip) × Sound l s
-  whole-set s lost t h = let e = eqb-true lost noChip t in (e, rw e at h)
+  settled-by : (s : Images) (lost : ℕ) → Within l → SoundBut l lost s → atRest l s ≡ true → eqb lost noChip ≡ true → (lost ≡ noChip) × Settled s
+  settled-by s lost w f rest whole =
+      let none-lost = eqb-true lost noChip whole in
+      (none-lost, record { within = w; sound = rw none-lost at f; at-rest = eqb-true (collectionAt l (s .records) .phase) 0 rest })
 
   -- write
   abbrev writeRows : Images → ℕ → ℕ → List ℕ → Table
@@ -152,22 +150,14 @@ module _ (l : Layout) where
   unfolding writeCheck
   write-accepted s lost page xs e =
       let (fit, named, but, h) = images-passed s lost (writeRows s lost page xs) e in
-      let (none-lost, sound) = whole-set s lost (h .1 .1 .1 .0) but in (
-        none-lost,
-        record {
-          within = fit;
-          sound = sound;
-          at-rest = rests s (h .0);
-          page = ltb-true page (N * S) (h .1 .0);
-          whole = eqb-true (length xs) W (h .1 .1 .0);
-        },
-      )
+      let (none-lost, settled) = settled-by s lost fit but (h .0) (h .1 .1 .1 .0) in
+      (none-lost, record { settled = settled; page = ltb-true page (N * S) (h .1 .0); whole = eqb-true (length xs) W (h .1 .1 .0) })
 
   pub write-passes : (s : Images) (page : ℕ) (xs : List ℕ) → WriteAccepted s page xs → writeCheck l s noChip page xs ≡ Passed
   unfolding writeCheck
   write-passes s page xs h =
-      images-pass (h .within) s noChip refl (h .sound) (checked (writeRows s noChip page xs) Passed)
-      ∙ rw (h .at-rest, lt-ltb page (N * S) (h .page), eq-eqb (length xs) W (h .whole))
+      images-pass (h .settled .within) s noChip refl (h .settled .sound) (checked (writeRows s noChip page xs) Passed)
+      ∙ rw (h .settled .at-rest, lt-ltb page (N * S) (h .page), eq-eqb (length xs) W (h .whole))
 
   -- commit
   abbrev commitRows : Images → ℕ → ℕ → Table
@@ -177,16 +167,8 @@ module _ (l : Layout) where
   unfolding commitCheck
   commit-accepted s lost j e =
       let (fit, named, but, h) = images-passed s lost (commitRows s lost j) e in
-      let (none-lost, sound) = whole-set s lost (h .1 .1 .0) but in (
-        none-lost,
-        record {
-          within = fit;
-          sound = sound;
-          at-rest = rests s (h .0);
-          stripe = ltb-true j S (h .1 .0);
-          slot = h .1 .1 .1 .0;
-        },
-      )
+      let (none-lost, settled) = settled-by s lost fit but (h .0) (h .1 .1 .0) in
+      (none-lost, record { settled = settled; stripe = ltb-true j S (h .1 .0); slot = h .1 .1 .1 .0 })
 
   -- collect
   abbrev victim : Images → ℕ → Found
@@ -199,16 +181,8 @@ module _ (l : Layout) where
   unfolding collectCheck
   collect-accepted s lost c e =
       let (fit, named, but, h) = images-passed s lost (collectRows s lost c) e in
-      let (none-lost, sound) = whole-set s lost (h .1 .1 .0) but in (
-        none-lost,
-        record {
-          within = fit;
-          sound = sound;
-          at-rest = rests s (h .0);
-          chip = omega (arith, leb-true c N (h .1 .0));
-          victim = when-found (victim s c) (h .1 .1 .1 .0);
-        },
-      )
+      let (none-lost, settled) = settled-by s lost fit but (h .0) (h .1 .1 .0) in
+      (none-lost, record { settled = settled; chip = omega (arith, leb-true c N (h .1 .0)); victim = when-found (victim s c) (h .1 .1 .1 .0) })
 
   -- with a chip named, nothing is stored
   pub lost-refused-write : (s : Images) (lost page : ℕ) (xs : List ℕ) → lost ≢ noChip → (r : Refusal) × (writeCheck l s lost page xs ≡ Failed r)

@@ -159,6 +159,9 @@ module _ (l : Layout) where
     apart = λ d. absurd (d refl);
   }
 
--- a chip is not the one that is collected on
+-- no chip is collected on at rest, nor one that is not the collection's
+pub rest-collects : (co : Collection) (c : ℕ) → co .phase ≡ 0 → collecting co c ≡ false
+rest-collects co c e = rw e
+
 pub not-collecting : (co : Collection) (c : ℕ) → co .chip ≢ c → collecting co c ≡ false
 not-collecting co c d = rw (ne-eqb (co .chip) c d, and-false)

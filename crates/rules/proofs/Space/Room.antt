@@ -28,7 +28,7 @@ use Rattle.rules.specs.Commit.{cheapest, recordCost}
 use Rattle.rules.specs.Write.{commitOwed, freeSlot, lowestFreeSlot}
 use Rattle.rules.proofs.Soundness.Statements.{RecordsSound, ChipSound}
 use Rattle.rules.proofs.Stores.Names.{by-name, named-by, name-tagged, side-slot}
-use Rattle.rules.proofs.Stores.Kept.{Fillable, CleanBut}
+use Rattle.rules.proofs.Stores.Chips.{Fillable, CleanBut}
 use Rattle.rules.proofs.Space.Places.{clean-at, open-begun, is-open, all-full, place-begun, place-fresh, place-nowhere, by-place}
 
 module _ (l : Layout) where

@@ -30,6 +30,20 @@ use Rattle.rules.proofs.Stores.Names.{main-names, side-names, name-name
 module _ (l : Layout) where
   open Layout l using (K, B, S, M, D)
 
+  -- place i of block b can be programmed: it is clean, and those before it are used
+  pub record Fillable (x : ℕ → Page) (b i : ℕ) : Type 0 where
+    pub block : b < B
+    pub place : i < K
+    pub is-clean : cleanIn l x b i ≡ true
+    pub before : (k : ℕ) → k < i → cleanIn l x b k ≡ false
+
+  -- another block than b is wholly clean
+  pub record CleanBut (x : ℕ → Page) (b : ℕ) : Type 0 where
+    pub block : ℕ
+    pub fits : block < B
+    pub other : block ≢ b
+    pub is-clean : cleanBlock l x block ≡ true
+
   -- what is sound fits its fields
   module _ (u : Usable l) where
     number-fits : (p : ℕ) → Numbered l p → p < 256 ^ D
@@ -120,12 +134,11 @@ module _ (l : Layout) where
 
   module _ (r : ℕ → Record) (x : ℕ → Page) (c : ℕ) (co : Collection) (f : ChipSound l r x c co) where
     -- a program of a clean page behind used ones
-    module _ (b i : ℕ) (place : i < K) (is-clean : cleanIn l x b i ≡ true) (before : (k : ℕ) → k < i → cleanIn l x b k ≡ false)
-        (page : Page) (used : page .kind ≢ cleanKind) where
+    module _ (b i : ℕ) (g : Fillable x b i) (page : Page) (used : page .kind ≢ cleanKind) where
       -- no named page is changed
       pub program-same : (p : ℕ) → p ≢ none l → named l r c p ≡ true → at (pageIn l b i) page x p ≡ x p
       program-same p d t =
-          at-other (pageIn l b i) page x p (λ e. both (clean (x p)) (rw e is-clean) (named-used l r x c co f p d t))
+          at-other (pageIn l b i) page x p (λ e. both (clean (x p)) (rw e (g .is-clean)) (named-used l r x c co f p d t))
 
       -- a page that is clean after it is another, and was clean
       clean-other : (p : ℕ) → clean (at (pageIn l b i) page x p) ≡ true → p ≢ pageIn l b i
@@ -140,8 +153,8 @@ module _ (l : Layout) where
       program-order b′ k block h t =
           let was = clean-before (pageIn l b′ k) t in
           let other : pageIn l b′ (k + 1) ≢ pageIn l b i =
-          λ e. let (same, next) = same-place l b′ (k + 1) b i h place e in
-          both (cleanIn l x b′ k) was (rw same (before k (omega arith))) in
+          λ e. let (same, next) = same-place l b′ (k + 1) b i h (g .place) e in
+          both (cleanIn l x b′ k) was (rw same (g .before k (omega arith))) in
           rw (at-other (pageIn l b i) page x (pageIn l b′ (k + 1)) other) (f .order b′ k block h was)
 
       program-spare : (b′ : ℕ) → b′ ≢ b → cleanBlock l x b′ ≡ true → cleanBlock l (at (pageIn l b i) page x) b′ ≡ true
@@ -149,18 +162,16 @@ module _ (l : Layout) where
       program-spare b′ d t =
           all-true K (cleanIn l (at (pageIn l b i) page x) b′)
           (λ k h.
-          rw (at-other (pageIn l b i) page x (pageIn l b′ k) (λ e. d (same-place l b′ k b i h place e .0)))
+          rw (at-other (pageIn l b i) page x (pageIn l b′ k) (λ e. d (same-place l b′ k b i h (g .place) e .0)))
           (all-at K (cleanIn l x b′) t k h))
 
       -- the chip after it
-      pub program-keeps : co .phase ≢ 2
-          → (collecting co c ≡ false → (b′ : ℕ) × (b′ < B) × (b′ ≢ b) × (cleanBlock l x b′ ≡ true))
-          → ChipSound l r (at (pageIn l b i) page x) c co
+      pub program-keeps : co .phase ≢ 2 → (collecting co c ≡ false → CleanBut x b) → ChipSound l r (at (pageIn l b i) page x) c co
       program-keeps free spare = record {
         main = main-stays r x (at (pageIn l b i) page x) c co f program-same;
         side = side-stays r x (at (pageIn l b i) page x) c co f program-same;
         order = program-order;
-        spare = λ t. let (b′, block, d, whole) = spare t in (b′, block, program-spare b′ d whole);
+        spare = λ t. let d = spare t in (d .block, d .fits, program-spare (d .block) (d .other) (d .is-clean));
         phase-1 = f .phase-1;
         phase-2 = λ e. absurd (free e);
       }

@@ -12,7 +12,7 @@ use Rattle.layout.specs.Record.{Record, hasSlot, recordAt}
 use Rattle.layout.specs.Collection.{Collection, collectionAt}
 use Rattle.layout.specs.Images.{Images, slotAt}
 use Rattle.rules.specs.Names.{mainNumber, sideNumber}
-use Rattle.rules.specs.Blocks.{cleanIn, cleanBlock, namedIn, unnamedIn}
+use Rattle.rules.specs.Blocks.{namedIn, unnamedIn}
 use Rattle.rules.specs.Sound.{twinIn}
 use Rattle.rules.specs.Gather.{bytesAt}
 use Rattle.rules.proofs.Soundness.Statements.{Sound}
@@ -102,20 +102,6 @@ module _ (l : Layout) where
         (sideNumber l c j (recordAt l (s .records) j)) (sideNumber l c j (recordAt l (t .records) j)) (sideNumber l c j (recordAt l (u .records) j))
         (g .side held c j chip below) (h .side (g .copies held) c j chip below);
   }
-
-  -- place i of block b can be programmed: it is clean, and those before it are used
-  pub record Fillable (x : ℕ → Page) (b i : ℕ) : Type 0 where
-    pub block : b < B
-    pub place : i < K
-    pub is-clean : cleanIn l x b i ≡ true
-    pub before : (k : ℕ) → k < i → cleanIn l x b k ≡ false
-
-  -- another block than b is wholly clean
-  pub record CleanBut (x : ℕ → Page) (b : ℕ) : Type 0 where
-    pub block : ℕ
-    pub fits : block < B
-    pub other : block ≢ b
-    pub is-clean : cleanBlock l x block ≡ true
 
   -- with no copy due there is nothing to say of one
   pub no-copies : (r : ℕ → Record) (x : ℕ → Page) (co : Collection)

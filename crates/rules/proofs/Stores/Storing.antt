@@ -27,8 +27,8 @@ use Rattle.rules.specs.Sound.{collecting}
 use Rattle.rules.proofs.Soundness.Statements.{Usable, RecordSound, CollectionSound, RecordsSound, Tagged, OneTwin, ChipSound, Sound, sound-chip}
 use Rattle.rules.proofs.Stores.Names.{main-names, side-names, name-named}
 use Rattle.rules.proofs.Stores.Chips.{record-fits, collection-fits, records-keep, collection-records-keep, program-same, program-keeps, erase-same, erase-keeps}
-use Rattle.rules.proofs.Stores.Chips.{record-keeps, collection-keeps}
-use Rattle.rules.proofs.Stores.Kept.{Copies, CopiesOf, Kept, same-refl, same-number, same-page, no-copies, no-copies-yet, Fillable, CleanBut}
+use Rattle.rules.proofs.Stores.Chips.{Fillable, CleanBut, record-keeps, collection-keeps}
+use Rattle.rules.proofs.Stores.Kept.{Copies, CopiesOf, Kept, same-refl, same-number, same-page, no-copies, no-copies-yet}
 
 module _ (l : Layout) where
   open Layout l using (N, W, K, B, S, M)
@@ -112,10 +112,9 @@ module _ (l : Layout) where
         let p-fits = page-in-fits l b i (g .block) (g .place) in
         kept-chips (programmed l c (pageIn l b i) page (s .chips)) c (at (pageIn l b i) page x)
         (page-programmed l (u .narrow) (s .chips) (f .chips) c chip (pageIn l b i) p-fits page fits)
-        (program-same l r x c co (sound-chip l u s f c chip) b i (g .place) (g .is-clean) (g .before) page used)
+        (program-same l r x c co (sound-chip l u s f c chip) b i g page used)
         (length-programmed l (u .narrow) (s .chips) (f .chips) c chip (pageIn l b i) p-fits page fits ∙ f .chips)
-        (program-keeps l r x c co (sound-chip l u s f c chip) b i (g .place) (g .is-clean) (g .before) page used free
-        (λ t. let e = spare t in (e .block, e .fits, e .other, e .is-clean)))
+        (program-keeps l r x c co (sound-chip l u s f c chip) b i g page used free spare)
         (λ held. no-copies-yet l r (pageAt l (programmed l c (pageIn l b i) page (s .chips)) (co .chip)) co free)
 
     pub kept-erase : (c b : ℕ) → c < N + 1 → b < B → ((i : ℕ) → i < K → named l r c (pageIn l b i) ≡ false)
