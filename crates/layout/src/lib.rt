@@ -1,6 +1,7 @@
 //! The geometry of a store, as its caller gives it.
 
 // Letters and limits are those of document 01; any numbers may be given.
+#[repr(C)]
 pub struct Geometry {
     // data pages to a stripe
     pub n: u64,

@@ -2,3 +2,4 @@ pub mod Prefixes
 pub mod Runs
 pub mod Totals
 pub mod View
+pub mod Allowances

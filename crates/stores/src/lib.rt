@@ -1,4 +1,4 @@
-//! What a call counts.
+//! What a call counts, and how far it is.
 
 pub struct Counts {
     // pages read, data or parity
@@ -9,4 +9,13 @@ pub struct Counts {
     pub erases: u64,
     // stores made, of whatever kind
     pub stores: u64,
+}
+
+// A call under way. By value: every store takes it and gives it back.
+pub struct Progress {
+    pub counts: Counts,
+    // what is left of the allowance
+    pub left: u64,
+    // a store was due with nothing left
+    pub cut: bool,
 }

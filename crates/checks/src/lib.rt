@@ -1,0 +1,150 @@
+//! The checks of a geometry, of the buffers' lengths and of the records.
+
+use codec::StripeRecord;
+use codec::bit_of;
+use codec::collection_at;
+use codec::collection_ends;
+use codec::record_at;
+use layout::Geometry;
+ghost use mathlib.Core.Path.{_≡_};
+ghost use mathlib.Core.Bool.{true};
+ghost use Prim.Native.Nat.{_<_};
+ghost use Rattle.layout.specs.Layout.{layoutOf, limits};
+ghost use Rattle.layout.specs.Record.{recordAt};
+ghost use Rattle.layout.specs.Collection.{collectionAt};
+ghost use Rattle.layout.specs.Images.{lengths};
+ghost use Rattle.rules.specs.Sound.{memberSound, recordSound, collectionSound, recordsSound};
+ghost use Rattle.codec.specs.Fit.{RecordsFit};
+ghost use Rattle.codec.specs.Views.{recordFrom};
+
+// Whether the geometry is within the limits. No product is formed before its factors are known to be small.
+pub fn geometry_passes(g: Geometry) -> bool
+    ensures { λ r. ⌜ r ≡ limits (layoutOf g) ⌝ }
+{
+    let sizes = (2 <= g.n)
+        & (g.n <= 6)
+        & (16 <= g.w)
+        & (g.w <= 4096)
+        & (g.w % 16 == 0)
+        & (2 <= g.k)
+        & (g.k <= 128)
+        & (2 <= g.b)
+        & (g.b <= 1024);
+    if !sizes {
+        return false;
+    }
+    let counts = (g.b * g.k <= 65535) & (1 <= g.s) & (g.s <= 65535) & (1 <= g.m) & (g.m <= 254);
+    if !counts {
+        return false;
+    }
+    g.s + g.m + 1 <= (g.b - 1) * g.k
+}
+
+// Whether each image has its length.
+pub fn lengths_pass(g: Geometry, chips: &[u8], records: &[u8], slots: &[u8]) -> bool
+    requires { ⌜ limits (layoutOf g) ≡ true ⌝ }
+    ensures { λ r. ⌜ r ≡ lengths (layoutOf g) (record { chips = now (chips .entry); records = now (records .entry); slots = now (slots .entry) }) ⌝ }
+{
+    let n = g.n as usize;
+    let w = g.w as usize;
+    let k = g.k as usize;
+    let b = g.b as usize;
+    let s = g.s as usize;
+    let m = g.m as usize;
+    (chips.len() == (n + 1) * (b * k) * (w + 8))
+        & (records.len() == (s + 1) * 32)
+        & (slots.len() == (m + 1) * w)
+}
+
+// Whether the record is sound about member m.
+fn member_passes(g: Geometry, e: StripeRecord, m: usize) -> bool
+    requires { ⌜ (limits (layoutOf g) ≡ true) × (m < 6) ⌝ }
+    ensures { λ r. ⌜ r ≡ memberSound (layoutOf g) (recordFrom (layoutOf g) e) m ⌝ }
+{
+    let pages = (g.b * g.k) as usize;
+    let n = g.n as usize;
+    let current = e.current[m];
+    let old = e.old[m];
+    let bit = bit_of(e.bitmap, m);
+    let unwritten = current == 65535;
+    let no_old = old == 65535;
+    (unwritten | (current < pages))
+        & (no_old | (old < pages))
+        & ((m < n) | (unwritten & no_old))
+        & (no_old | bit)
+        & (!bit | (!unwritten & !(current == old)))
+        & ((no_old & (unwritten | bit)) | !(e.parity == 65535))
+}
+
+// Whether a record is sound by itself.
+fn record_passes(g: Geometry, e: StripeRecord) -> bool
+    requires { ⌜ limits (layoutOf g) ≡ true ⌝ }
+    ensures { λ r. ⌜ r ≡ recordSound (layoutOf g) (recordFrom (layoutOf g) e) ⌝ }
+{
+    let n = g.n as usize;
+    let most = g.m as usize;
+    let pages = (g.b * g.k) as usize;
+    let mut members = true;
+    let mut m = 0;
+    while m < 6 {
+        members = members & member_passes(g, e, m);
+        m += 1;
+    }
+    let slot = if e.bitmap == 0 {
+        e.slot == 255
+    } else {
+        e.slot <= most
+    };
+    members
+        & ((e.parity == 65535) | (e.parity < pages))
+        & (e.bitmap < (1 << n))
+        & slot
+        & (e.rest == 0)
+}
+
+// Whether the collection record is sound.
+fn collection_passes(g: Geometry, records: &[u8]) -> bool
+    requires { ⌜ RecordsFit g (now records) ⌝ }
+    ensures { λ r. ⌜ r ≡ collectionSound (layoutOf g) (collectionAt (layoutOf g) (now (records .entry))) ⌝ }
+{
+    let n = g.n as usize;
+    let b = g.b as usize;
+    let ends = collection_ends(records, g);
+    let co = collection_at(records, g);
+    if co.phase == 0 {
+        return ends & ((co.chip == 0) & (co.victim == 0) & (co.destination == 0));
+    }
+    ends
+        & ((co.phase <= 2)
+            & (co.chip <= n)
+            & (co.victim < b)
+            & (co.destination < b)
+            & !(co.victim == co.destination))
+}
+
+// Whether the records are sound: one pass, with a table of the slots seen.
+pub fn records_pass(g: Geometry, records: &[u8]) -> bool
+    requires { ⌜ RecordsFit g (now records) ⌝ }
+    ensures { λ r. ⌜ r ≡ recordsSound (layoutOf g) (recordAt (layoutOf g) (now (records .entry))) (collectionAt (layoutOf g) (now (records .entry))) ⌝ }
+{
+    let s = g.s as usize;
+    let most = g.m as usize;
+    let mut seen = [false; 256];
+    let mut sound = true;
+    let mut own = true;
+    let mut slotted: usize = 0;
+    let mut j = 0;
+    while j < s {
+        let e = record_at(records, g, j);
+        sound = sound & record_passes(g, e);
+        let slot = e.slot;
+        let has = slot != 255;
+        own = own & (!has | !seen[slot]);
+        seen[slot] = true;
+        if has {
+            slotted += 1;
+        }
+        j += 1;
+    }
+    sound & own & (slotted <= most) & collection_passes(g, records)
+}

@@ -1,0 +1,87 @@
+-- A record in the bytes of the image: its six current and six old numbers, and the fields behind them.
+use Prim.Native.Nat.{ℕ, zero, suc, _+_, _*_, _≤_, _<_}
+use native.Mathlib.Nat.{add-zero, add-assoc}
+use native.Mathlib.Decide.{decLt}
+use native.Mathlib.Omega.{arith}
+use mathlib.Core.Path.{_≡_, refl, fun-ext}
+use mathlib.Core.List.{List, [], _∷_}
+use lib.ListN.{getD, take, drop}
+use lib.Seq.{drop-drop}
+use borrow.Author.Tests.{lt-ltb, le-ltb}
+use Rattle.units.specs.Number.{number}
+use Rattle.units.specs.Units.{part, unit}
+use Rattle.units.proofs.Units.{part-unit, getD-unit}
+use Rattle.layout.specs.declared.Geometry.{Geometry}
+use Rattle.layout.specs.Layout.{layoutOf}
+use Rattle.layout.specs.Record.{sixFrom, recordOf, recordAt}
+use Rattle.codec.specs.Views.{sixOf, recordFrom, sixAt}
+
+-- ---- six numbers
+
+-- six numbers below n, and 0 beyond them
+pub six-below : (n : ℕ) {a b c d e f : ℕ} → a < n → b < n → c < n → d < n → e < n → f < n
+    → (m : ℕ) → getD (a ∷ b ∷ c ∷ d ∷ e ∷ f ∷ []) m 0 < n
+six-below n p q r s t u zero = p
+six-below n p q r s t u (suc zero) = q
+six-below n p q r s t u (suc (suc zero)) = r
+six-below n p q r s t u (suc (suc (suc zero))) = s
+six-below n p q r s t u (suc (suc (suc (suc zero)))) = t
+six-below n p q r s t u (suc (suc (suc (suc (suc zero))))) = u
+six-below n p q r s t u (suc (suc (suc (suc (suc (suc m)))))) = omega arith
+
+-- number m of the six at offset a
+six-number : (a m : ℕ) (xs : List ℕ) → m < 6 → getD (sixAt a xs) m 0 ≡ number (part (a + m * 2) 2 xs)
+six-number a zero xs h = rw add-zero
+six-number a (suc zero) xs h = refl
+six-number a (suc (suc zero)) xs h = refl
+six-number a (suc (suc (suc zero))) xs h = refl
+six-number a (suc (suc (suc (suc zero)))) xs h = refl
+six-number a (suc (suc (suc (suc (suc zero))))) xs h = refl
+six-number a (suc (suc (suc (suc (suc (suc m)))))) xs h = omega arith
+
+-- the six of record j that begin with its number `from`
+six-of-record : (g : Geometry) (j from : ℕ) (xs : List ℕ) → from ≤ 6
+    → sixOf (layoutOf g) (sixAt (j * 32 + from * 2) xs) ≡ sixFrom (layoutOf g) from (unit 32 j xs)
+unfolding sixOf sixFrom
+six-of-record g j from xs h = fun-ext λ m. elim (decLt m 6) [
+  | yes b ↦
+      let e : j * 32 + from * 2 + m * 2 ≡ j * 32 + (from + m) * 2 = omega arith in
+      rw (lt-ltb m 6 b, six-number (j * 32 + from * 2) m xs b, part-unit 32 j ((from + m) * 2) 2 xs (omega arith), e)
+  | no b ↦ rw (le-ltb m 6 (omega arith))
+]
+
+-- ---- a record
+
+-- the number of four bytes is that of the first two and that of the last two
+number-halves : (xs : List ℕ) → number (take 4 xs) ≡ number (take 2 xs) + 65536 * number (take 2 (drop 2 xs))
+unfolding number
+number-halves [] = refl
+number-halves (x ∷ []) = omega arith
+number-halves (x ∷ y ∷ xs) = omega arith
+
+number-four : (a : ℕ) (xs : List ℕ) → number (part a 4 xs) ≡ number (part a 2 xs) + 65536 * number (part (a + 2) 2 xs)
+unfolding part
+number-four a xs = rw (number-halves (drop a xs), drop-drop)
+
+-- the bytes at the offsets of record j hold it
+pub record-in : (g : Geometry) (xs : List ℕ) (j : ℕ) → j < g .s
+    → recordFrom
+    (layoutOf g)
+    (record {
+      current = sixAt (j * 32) xs;
+      old = sixAt (j * 32 + 12) xs;
+      parity = number (part (j * 32 + 24) 2 xs);
+      bitmap = getD xs (j * 32 + 26) 0;
+      slot = getD xs (j * 32 + 27) 0;
+      rest = number (part (j * 32 + 28) 2 xs) + 65536 * number (part (j * 32 + 30) 2 xs);
+    })
+    ≡ recordAt (layoutOf g) xs j
+unfolding recordFrom recordAt recordOf
+record-in g xs j h =
+    let current = six-of-record g j 0 xs (omega arith) in
+    let old = six-of-record g j 6 xs (omega arith) in
+    let parity = part-unit 32 j 24 2 xs (omega arith) in
+    let bitmap = getD-unit 32 j 26 0 xs (omega arith) in
+    let slot = getD-unit 32 j 27 0 xs (omega arith) in
+    let rest = part-unit 32 j 28 4 xs (omega arith) in
+    rw (lt-ltb j (g .s) h, ← current, ← old, parity, bitmap, slot, rest, number-four (j * 32 + 28) xs, add-assoc (j * 32) 28 2, add-zero)

@@ -1,0 +1,28 @@
+-- The test of the code is the test of the definition.
+use native.Mathlib.Omega.{arith}
+use borrow.Author.Needs.{needs}
+use borrow.Author.Tests.{lt-ltb, le-ltb}
+use Rattle.layout.specs.Rotation.{memberChip}
+use Rattle.codec.proofs.member_chip.Statement.{statement}
+use Rattle.codec.proofs.member_chip.Tie as tie
+
+parity-chip-requires : tie.Need-parity-chip-requires
+parity-chip-requires c κs = search needs
+
+add-result : tie.Need-add-result
+add-result c = search needs
+
+returns : tie.Need-returns
+unfolding memberChip
+returns c =
+    let x = c .before .parity-chip in
+    (rw (← x .ensures .0, lt-ltb (c .before .before .args .m) (x .result) (c .if1 .taken)), omega arith)
+
+returns-2 : tie.Need-returns-2
+unfolding memberChip
+returns-2 c =
+    let x = c .before .parity-chip in
+    (rw (← x .ensures .0, le-ltb (c .before .before .args .m) (x .result) (c .if1 .left)), omega arith)
+
+pub member-chip-spec : {M : Type 1} → statement M
+member-chip-spec = tie.close (tie.spec parity-chip-requires add-result returns returns-2)

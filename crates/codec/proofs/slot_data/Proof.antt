@@ -1,0 +1,41 @@
+-- Slot i ends within the image; the part that is lent is that unit of it.
+use Prim.Native.Nat.{_+_, _*_, _≤_}
+use native.Mathlib.Omega.{arith}
+use native.Mathlib.Nat.{add-sub-cancel-left}
+use mathlib.Core.Path.{refl}
+use lib.ListN.{length}
+use borrow.Author.Needs.{needs}
+use Rattle.units.specs.Units.{part, unit}
+use Rattle.units.proofs.Units.{length-part}
+use Rattle.layout.specs.Images.{slotAt}
+use Rattle.codec.proofs.Offsets.{slot-within}
+use Rattle.codec.proofs.slot_data.Statement.{statement}
+use Rattle.codec.proofs.slot_data.Tie as tie
+
+fits : (c : tie.Start) → c .args .i * c .args .g .w + c .args .g .w ≤ length (c .args .slots .now)
+fits c = slot-within (c .args .g) (c .args .slots .now) (c .pre .0) (c .args .i) (c .pre .1)
+
+mul-a : tie.Need-mul-a
+mul-a c = omega (arith, fits c)
+
+add-e : tie.Need-add-e
+add-e c = omega (arith, fits c)
+
+sub-result : tie.Need-sub-result
+sub-result c = search needs
+
+part-result-start : tie.Need-part-result-start
+part-result-start c = search needs
+
+part-result-end : tie.Need-part-result-end
+part-result-end c = omega (arith, fits c)
+
+returns : tie.Need-returns
+unfolding slotAt unit part
+returns c =
+    let a = c .before .args in
+    rw add-sub-cancel-left (refl, length-part (a .i * a .g .w) (a .g .w) (a .slots .now) (fits (c .before)))
+
+pub slot-data-spec : {M : Type 1} → statement M
+slot-data-spec =
+    tie.close (tie.spec mul-a add-e sub-result part-result-start part-result-end returns)
