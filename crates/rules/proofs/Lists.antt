@@ -10,3 +10,5 @@ pub mod Finish
 pub mod Fresh
 pub mod FreshSound
 pub mod Writing
+pub mod Lengths
+pub mod Answers

@@ -3,3 +3,4 @@ pub mod Runs
 pub mod Totals
 pub mod View
 pub mod Allowances
+pub mod Lengths

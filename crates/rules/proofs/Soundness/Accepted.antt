@@ -57,6 +57,16 @@ rows-passed [] below e = (tt, e)
 rows-passed ((true, r) ∷ rows) below e = let h = rows-passed rows below e in ((refl, h .0), h .1)
 rows-passed ((false, r) ∷ rows) below e = not-passed r e
 
+-- the rows below count where those above have passed
+abbrev pub andBelow : Check → Check → Check
+andBelow Passed below = below
+andBelow (Failed r) below = Failed r
+
+rows-then : (rows : Table) (below : Check) → checked rows below ≡ andBelow (checked rows Passed) below
+rows-then [] below = refl
+rows-then ((true, r) ∷ rows) below = rows-then rows below
+rows-then ((false, r) ∷ rows) below = refl
+
 module _ (l : Layout) where
   open Layout l using (N, W, S)
 
@@ -119,6 +129,14 @@ module _ (l : Layout) where
   unfolding imagesCheck buffersCheck
   images-pass w s lost named h below =
       rw (limited l w, lengths-pass l s lost h, named, records-check-pass l s lost h, spares-check-pass l s lost h)
+
+  pub images-then : (s : Images) (lost : ℕ) (below : Check) → imagesCheck l s lost below ≡ andBelow (imagesCheck l s lost Passed) below
+  unfolding imagesCheck buffersCheck
+  images-then s lost below = rows-then (imagesRows s lost) below
+
+  pub buffers-then : (s : Images) (below : Check) → buffersCheck l s below ≡ andBelow (buffersCheck l s Passed) below
+  unfolding buffersCheck
+  buffers-then s below = rows-then ((limits l, Geometry) ∷ (lengths l s, Buffers) ∷ []) below
 
   -- open
   pub open-accepted : (s : Images) (lost : ℕ) → openCheck l s lost ≡ Passed → OpenAccepted s lost

@@ -75,7 +75,7 @@ module _ (l : Layout) where
       (λ f g. differ-by p (none l) (h .parity-under-current (eqb-false a (none l) f) g)) in
       rw (number-pass a (h .current), number-pass b (h .old), members, unless-equal-by b (none l) (bit r m) (h .old-under-bit), with-bit, parity)
 
-  record-sound : (r : Record) → recordSound l r ≡ true → RecordSound l r
+  pub record-sound : (r : Record) → recordSound l r ≡ true → RecordSound l r
   unfolding recordSound
   record-sound r e =
       let h = chain-all (allBelow 6 (memberSound l r)) (pageNumber l (r .parity) ∷ ltb (r .bitmap) (2 ^ N) ∷ slotSound l r ∷ eqb (r .rest) 0 ∷ []) e in

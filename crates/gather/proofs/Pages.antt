@@ -1,0 +1,161 @@
+-- Six page numbers filled in one by one, the pages of a stripe XORed member by member, and the front of the work page.
+use Prim.Native.Nat.{ℕ, _+_, _-_, _≤_, _<_}
+use native.Mathlib.Numerals.{add-one}
+use native.Mathlib.Nat.{sub-zero}
+use native.Mathlib.Omega.{arith}
+use mathlib.Core.Path.{_≡_, refl, fun-ext}
+use mathlib.Core.Logic.{_≢_}
+use mathlib.Core.List.{List, _++_}
+use lib.ListN.{length, getD, set, take, drop, replicate, length-append, length-set, length-replicate, getD-replicate}
+use lib.Seq.{getD-set-same, getD-set-other, take-at}
+use borrow.Author.Tests.{eq-eqb, ne-eqb, lt-ltb, le-ltb}
+use Rattle.units.specs.Look.{countBelow}
+use Rattle.units.specs.Units.{part}
+use Rattle.units.specs.Xor.{_⊕_, xorBelow}
+use Rattle.units.proofs.Looks.{at-last, by-order}
+use Rattle.units.proofs.Counts.{count-le}
+use Rattle.units.proofs.Units.{part-replicate}
+use Rattle.units.proofs.Xors.{xors-assoc, xor-nil-r, length-xors-left, xors-zeros-l}
+use Rattle.layout.specs.declared.Geometry.{Geometry}
+use Rattle.layout.specs.Layout.{layoutOf, none}
+use Rattle.layout.specs.Rotation.{memberChip}
+use Rattle.layout.specs.Page.{pageAt}
+use Rattle.rules.specs.Gather.{bytesAt, memberBytes, isPage, gathered, gatheredReads}
+use Rattle.rules.specs.Read.{Fetched}
+use Rattle.codec.specs.Views.{sixOf}
+
+-- ---- six numbers
+
+module _ (g : Geometry) (xs : List ℕ) (m : ℕ) where
+  -- number m of the six
+  pub six-in : m < 6 → sixOf (layoutOf g) xs m ≡ getD xs m 0
+  unfolding sixOf
+  six-in h = rw (lt-ltb m 6 h)
+
+  -- and none beyond them
+  pub six-beyond : 6 ≤ m → sixOf (layoutOf g) xs m ≡ 65535
+  unfolding sixOf none
+  six-beyond h = rw (le-ltb m 6 h)
+
+-- of six numbers those below i are f's, and the others are none
+pub record Filled (f : ℕ → ℕ) (i : ℕ) (xs : List ℕ) : Type 0 where
+  pub long : length xs ≡ 6
+  pub so-far : (k : ℕ) → k < i → getD xs k 0 ≡ f k
+  pub rest : (k : ℕ) → i ≤ k → k < 6 → getD xs k 0 ≡ 65535
+
+-- before the first number
+pub filled-none : (f : ℕ → ℕ) → Filled f 0 (replicate 6 65535)
+filled-none f = record {
+  long = refl;
+  so-far = λ k h. absurd (omega arith);
+  rest = λ k l h. getD-replicate 6 k 65535 0 h;
+}
+
+module _ {f : ℕ → ℕ} {i : ℕ} {xs : List ℕ} (s : Filled f i xs) where
+  -- the next number is stored
+  pub filled-more : (v : ℕ) → i < 6 → v ≡ f i → Filled f (i + 1) (set xs i v)
+  filled-more v h e = record {
+    long = rw length-set (s .long);
+    so-far = λ k b. at-last k i (omega arith)
+        (λ low. rw (getD-set-other xs i k v 0 (omega arith)) (s .so-far k low))
+        (λ same. rw (same, getD-set-same xs i v 0 (omega arith)) e);
+    rest = λ k l b. rw (getD-set-other xs i k v 0 (omega arith)) (s .rest k (omega arith) b);
+  }
+
+  -- the next number is none
+  pub filled-skip : i < 6 → f i ≡ 65535 → Filled f (i + 1) xs
+  filled-skip h e = record {
+    long = s .long;
+    so-far = λ k b. at-last k i (omega arith) (s .so-far k) (λ same. rw (same, e) (s .rest i (omega arith) h));
+    rest = λ k l b. s .rest k (omega arith) b;
+  }
+
+  -- all six
+  pub filled-all : 6 ≤ i → (g : Geometry) → ((k : ℕ) → 6 ≤ k → f k ≡ 65535) → sixOf (layoutOf g) xs ≡ f
+  filled-all h g none-beyond = fun-ext λ k. by-order k 6
+      (λ low. rw (six-in g xs k low) (s .so-far k (omega arith)))
+      (λ high. rw (six-beyond g xs k high, none-beyond k high))
+
+-- ---- XOR over the members
+
+-- what is XORed into zeros stands there
+pub into-zeros : (w : ℕ) {xs ys zs : List ℕ} → xs ≡ replicate w 0 → length zs ≡ w → ys ≡ xs ⊕ zs → ys ≡ zs
+into-zeros w {xs} {ys} {zs} z h e = rw (e, z) (xors-zeros-l w zs (omega arith))
+
+-- the data of the page of each member
+abbrev bytesOf : Geometry → List ℕ → ℕ → List ℕ → ℕ → List ℕ
+bytesOf g chips j numbers = memberBytes (layoutOf g) (pageAt (layoutOf g) chips) j (sixOf (layoutOf g) numbers)
+
+-- the pages of the first m members are in
+pub record Gathered (g : Geometry) (chips : List ℕ) (j : ℕ) (numbers work₀ : List ℕ) (m : ℕ) (work : List ℕ) (reads : ℕ) : Type 0 where
+  pub few : g .n ≤ 6
+  pub within : m ≤ g .n
+  pub long : length work ≡ g .w
+  pub bytes : work ≡ work₀ ⊕ xorBelow m (bytesOf g chips j numbers)
+  pub counted : reads ≡ countBelow m (isPage (layoutOf g) (sixOf (layoutOf g) numbers))
+
+-- before the first member
+pub gathered-none : (g : Geometry) (chips : List ℕ) (j : ℕ) (numbers work : List ℕ) → g .n ≤ 6 → length work ≡ g .w
+    → Gathered g chips j numbers work 0 work 0
+unfolding xorBelow countBelow
+gathered-none g chips j numbers work n w = record { few = n; within = omega arith; long = w; bytes = rw (xor-nil-r work); counted = refl }
+
+module _ {g : Geometry} {chips : List ℕ} {j : ℕ} {numbers work₀ : List ℕ} {m : ℕ} {work : List ℕ} {reads : ℕ} (s : Gathered g chips j numbers work₀ m work reads) where
+  -- at most one read for a member
+  pub gathered-few : reads ≤ m
+  gathered-few = rw (s .counted) (count-le m (isPage (layoutOf g) (sixOf (layoutOf g) numbers)))
+
+  module _ (h : m < g .n) where
+    -- the next member has a page
+    pub gathered-more : getD numbers m 0 ≢ 65535 → (page : List ℕ) → length page ≡ g .w
+        → page ≡ pageAt (layoutOf g) chips (memberChip (layoutOf g) j m) (getD numbers m 0) .bytes
+        → Gathered g chips j numbers work₀ (m + 1) (work ⊕ page) (reads + 1)
+    unfolding xorBelow countBelow bytesAt none
+    gathered-more d page w e =
+        let at = six-in g numbers m (omega arith) in
+        record {
+          few = s .few;
+          within = omega arith;
+          long = rw (length-xors-left work page (omega arith)) (s .long);
+          bytes = rw (add-one, at, ne-eqb (getD numbers m 0) 65535 d, ← e, s .bytes) (xors-assoc work₀ (xorBelow m (bytesOf g chips j numbers)) page);
+          counted = rw (add-one, add-one, at, ne-eqb (getD numbers m 0) 65535 d, s .counted);
+        }
+
+    -- the next member has none
+    pub gathered-skip : getD numbers m 0 ≡ 65535 → Gathered g chips j numbers work₀ (m + 1) work reads
+    unfolding xorBelow countBelow bytesAt none
+    gathered-skip d =
+        let at = six-in g numbers m (omega arith) in
+        record {
+          few = s .few;
+          within = omega arith;
+          long = s .long;
+          bytes = rw (add-one, at, eq-eqb (getD numbers m 0) 65535 d, xor-nil-r (xorBelow m (bytesOf g chips j numbers))) (s .bytes);
+          counted = rw (add-one, at, eq-eqb (getD numbers m 0) 65535 d) (s .counted);
+        }
+
+  -- all members
+  pub gathered-all : g .n ≤ m
+      → (work ≡ work₀ ⊕ gathered (layoutOf g) (pageAt (layoutOf g) chips) j (sixOf (layoutOf g) numbers))
+      × (reads ≡ gatheredReads (layoutOf g) (sixOf (layoutOf g) numbers))
+      × (reads ≤ 6)
+  unfolding gathered gatheredReads
+  gathered-all h =
+      let all : m ≡ g .n = omega arith in
+      let few = gathered-few in
+      (rw all at (s .bytes), rw all at (s .counted), omega arith)
+
+-- ---- the work page
+
+-- its first bytes are zeros
+pub front-zeros : (w n : ℕ) → w ≤ n → take {A = ℕ} (w - 0) (replicate n 0) ≡ replicate w 0
+unfolding part
+front-zeros w n h = rw sub-zero (part-replicate 0 w n 0 (omega arith))
+
+-- where ys comes back as its first w bytes, they are ys
+pub front-back : (w n : ℕ) → w ≤ n → {ys xs : List ℕ} {k reads : ℕ} {f : Fetched} → length ys ≡ length (take {A = ℕ} (w - 0) (replicate n 0))
+    → xs ≡ ys ++ drop (w - 0) (replicate n 0) → k ≡ reads → record { bytes = ys; reads = reads } ≡ f
+    → (w ≤ length xs) × (record { bytes = take (w - 0) xs; reads = k } ≡ f)
+front-back w n h {ys} same e q known =
+    let long : length ys ≡ w = rw (front-zeros w n h, length-replicate) at same in
+    rw (e, q, sub-zero) (rw length-append (omega arith), rw (take-at ys (drop w (replicate n 0)) w long) known)

@@ -1,0 +1,51 @@
+-- Whether a record names a page, found from the page's own spare bytes: only the record of the stripe that they give is looked at.
+use Prim.Native.Nat.{ℕ, _+_, _≤_}
+use mathlib.Core.Path.{_≡_}
+use mathlib.Core.Bool.{Bool, true, not, _&&_}
+use mathlib.Core.List.{List}
+use lib.Dec.{ltb}
+use Rattle.units.specs.Look.{allBelow, countBelow}
+use Rattle.layout.specs.declared.Geometry.{Geometry}
+use Rattle.layout.specs.Layout.{Layout, isNone, layoutOf}
+use Rattle.layout.specs.Page.{Page, pageAt}
+use Rattle.layout.specs.Record.{Record, recordAt}
+use Rattle.rules.specs.Names.{mainNumber, sideNumber, kindOn, memberTag, names}
+use Rattle.rules.specs.Sound.{taggedPage, taggedStripe}
+use Rattle.codec.specs.Fit.{ChipsFit, RecordsFit}
+use Rattle.names.specs.declared.StripePages.{StripePages}
+
+module _ (l : Layout) where
+  open Layout l using (S)
+
+  -- what record r of stripe j says of chip c, as the code's struct
+  unfoldable pub pagesOn : ℕ → ℕ → Record → StripePages
+  pagesOn c j r =
+      record {
+        main = mainNumber l c j r;
+        side = sideNumber l c j r;
+        kind = kindOn l c j;
+        member = memberTag l c j;
+      }
+
+  -- with the records r and the pages x of chip c: the record of the stripe stamped on page p names it, and the stamp is right
+  unfoldable pub stamped : (ℕ → Record) → (ℕ → Page) → ℕ → ℕ → Bool
+  stamped r x c p = ltb (x p .stripe) S && (taggedPage l x c (x p .stripe) p && names l r c p (x p .stripe))
+
+  -- the record of stripe j has a main number on chip c
+  abbrev pub hasMain : (ℕ → Record) → ℕ → ℕ → Bool
+  hasMain r c j = not (isNone l (mainNumber l c j (r j)))
+
+  -- and a side number
+  abbrev pub hasSide : (ℕ → Record) → ℕ → ℕ → Bool
+  hasSide r c j = not (isNone l (sideNumber l c j (r j)))
+
+  -- how many pages of chip c the records below n name
+  unfoldable pub namesBelow : (ℕ → Record) → ℕ → ℕ → ℕ
+  namesBelow r c n = countBelow n (hasMain r c) + countBelow n (hasSide r c)
+
+-- each page that a record names on chip c has its stamp
+pub record TagsPass (g : Geometry) (chips records : List ℕ) (c : ℕ) : Type 0 where
+  pub chips-fit : ChipsFit g chips
+  pub records-fit : RecordsFit g records
+  pub chip : c ≤ g .n
+  pub tags : allBelow (g .s) (taggedStripe (layoutOf g) (recordAt (layoutOf g) records) (pageAt (layoutOf g) chips c) c) ≡ true

@@ -1,0 +1,92 @@
+//! Which pages the records name.
+
+use codec::Spare;
+use codec::parity_chip;
+use codec::spare_at;
+use layout::Geometry;
+use slices::number_at;
+ghost use mathlib.Core.Path.{_≡_};
+ghost use mathlib.Core.Bool.{Bool, true};
+ghost use Prim.Native.Nat.{ℕ, _+_, _*_, _≤_, _<_};
+ghost use Rattle.layout.specs.Layout.{layoutOf, pages};
+ghost use Rattle.layout.specs.Page.{Page, pageAt};
+ghost use Rattle.layout.specs.Record.{recordAt};
+ghost use Rattle.rules.specs.Names.{named};
+ghost use Rattle.codec.specs.Fit.{RecordsFit};
+ghost use Rattle.codec.specs.Views.{spareOf};
+ghost use Rattle.names.specs.Stamps.{pagesOn, stamped, namesBelow, TagsPass};
+
+// The pages of a stripe on one chip: their numbers, the side number being an old page's or none, and their stamp.
+pub struct StripePages {
+    pub main: usize,
+    pub side: usize,
+    pub kind: usize,
+    pub member: usize,
+}
+
+// What the record of stripe j says of chip c.
+pub fn stripe_pages(records: &[u8], g: Geometry, c: usize, j: usize) -> StripePages
+    requires { ⌜ RecordsFit g (now records) × (c ≤ g .n) × (j < g .s) ⌝ }
+    ensures { λ r. ⌜ r ≡ pagesOn (layoutOf g) c j (recordAt (layoutOf g) (now (records .entry)) j) ⌝ }
+{
+    let a = j * 32;
+    let parity = parity_chip(g, j);
+    if c == parity {
+        return StripePages {
+            main: number_at(records, a + 24),
+            side: 65535,
+            kind: 80,
+            member: 0,
+        };
+    }
+    let m = if c < parity { c } else { c - 1 };
+    StripePages {
+        main: number_at(records, a + 2 * m),
+        side: number_at(records, a + 12 + 2 * m),
+        kind: 68,
+        member: m,
+    }
+}
+
+// Whether page p of chip c, with this spare, is named by the record of the stripe that the spare gives.
+pub fn is_stamped(records: &[u8], g: Geometry, c: usize, p: usize, t: Spare) -> bool
+    requires { ⌜ RecordsFit g (now records) × (c ≤ g .n) ⌝ }
+    ensures { λ r. ⌜ ((x : ℕ → Page) → spareOf (x p) ≡ t → r ≡ stamped (layoutOf g) (recordAt (layoutOf g) (now (records .entry))) x c p) ⌝ }
+{
+    let s = g.s as usize;
+    let j = t.stripe;
+    if s <= j {
+        return false;
+    }
+    let e = stripe_pages(records, g, c, j);
+    (t.kind == e.kind) & (t.member == e.member) & ((e.main == p) | (e.side == p))
+}
+
+// Whether a record names page p of chip c.
+pub fn named_at(chips: &[u8], records: &[u8], g: Geometry, c: usize, p: usize) -> bool
+    requires { ⌜ TagsPass g (now chips) (now records) c × (p < pages (layoutOf g)) ⌝ }
+    ensures { λ r. ⌜ r ≡ named (layoutOf g) (recordAt (layoutOf g) (now (records .entry))) c p ⌝ }
+{
+    is_stamped(records, g, c, p, spare_at(chips, g, c, p))
+}
+
+// How many pages of chip c the records name.
+pub fn names_on(records: &[u8], g: Geometry, c: usize) -> usize
+    requires { ⌜ RecordsFit g (now records) × (c ≤ g .n) ⌝ }
+    ensures { λ r. ⌜ r ≡ namesBelow (layoutOf g) (recordAt (layoutOf g) (now (records .entry))) c (g .s) ⌝ }
+{
+    let s = g.s as usize;
+    let mut n = 0;
+    let mut j = 0;
+    while j < s {
+        let e = stripe_pages(records, g, c, j);
+        if e.main != 65535 {
+            n += 1;
+        }
+        if e.side != 65535 {
+            n += 1;
+        }
+        j += 1;
+    }
+    n
+}

@@ -1,0 +1,143 @@
+-- Page numbers that fit, what the loops over a block and over a chip have found so far, and the test of a twin.
+use Prim.Native.Nat.{ℕ, zero, suc, _+_, _-_, _*_, _≤_, _<_}
+use native.Mathlib.Nat.{add-zero, add-suc, suc-mul, zero-mul, mul-le-mul-right, le-refl}
+use native.Mathlib.Numerals.{add-one}
+use native.Mathlib.Omega.{arith}
+use mathlib.Core.Path.{_≡_, refl, sym}
+use mathlib.Core.Bool.{Bool, true, false, not, _&&_, _||_}
+use lib.Dec.{eqb}
+use Rattle.units.specs.Look.{allBelow, someBelow, countBelow}
+use Rattle.units.proofs.Counts.{count-start, count-le}
+use Rattle.layout.specs.declared.Geometry.{Geometry}
+use Rattle.layout.specs.Layout.{Layout, layoutOf, limits, none, pages, pageIn}
+use Rattle.layout.specs.Page.{Page}
+use Rattle.layout.specs.Record.{Record}
+use Rattle.layout.proofs.Limits.{within}
+use Rattle.layout.proofs.Pages.{page-in-fits}
+use Rattle.rules.specs.Names.{named as namedPage}
+use Rattle.rules.specs.Blocks.{cleanIn, usedIn, inOrder, cleanBlock, orderedBlock}
+use Rattle.rules.specs.Sound.{twin}
+use Rattle.codec.specs.declared.Spare.{Spare}
+use Rattle.codec.specs.Views.{spareOf}
+use Rattle.names.specs.Stamps.{stamped}
+use Rattle.names.proofs.Tallies.{ones, count-more}
+use Rattle.spares.specs.declared.Scan.{Scan}
+use Rattle.spares.specs.Scans.{stampedIn, blockScan, chipScan}
+
+-- ---- page numbers
+
+-- p is a page of a chip, and so a number of two bytes
+abbrev pub OnChip : Geometry → ℕ → Type 0
+OnChip g p = (p < pages (layoutOf g)) × (p < 65535)
+
+module _ (g : Geometry) (limited : limits (layoutOf g) ≡ true) where
+  -- the first b blocks have no more pages than two bytes number
+  pub start-low : (b : ℕ) → b ≤ g .b → b * g .k ≤ 65535
+  unfolding none
+  start-low b h = omega (arith, within (layoutOf g) limited .pages-numbered, mul-le-mul-right (g .k) h)
+
+  -- a place of a block is a page
+  pub place-low : (b i : ℕ) → b < g .b → i < g .k → OnChip g (b * g .k + i)
+  place-low b i block place =
+      let low = page-in-fits (layoutOf g) b i block place in (low, omega (arith, start-low (g .b) (le-refl (g .b))))
+
+-- ---- counts
+
+-- the count below a + n is that below a with that of the n numbers from a on
+count-from : (a n : ℕ) (f : ℕ → Bool) → countBelow (a + n) f ≡ countBelow a f + countBelow n (λ i. f (a + i))
+count-from a zero f = rw add-zero (omega (arith, count-start (λ i. f (a + i))))
+count-from a (suc n) f = rw add-suc (omega (arith, count-from a n f, count-more (a + n) f, count-more n (λ i. f (a + i))))
+
+-- ---- block b of a chip, with its pages x
+
+module _ (l : Layout) (x : ℕ → Page) (b : ℕ) where
+  -- the page before place i is used, where there is one
+  abbrev usedBefore : ℕ → Bool
+  usedBefore zero = true
+  usedBefore (suc i) = usedIn l x b i
+
+  -- the order with one place more
+  order-more : (i : ℕ) → allBelow (i - 1) (inOrder l x b) && (usedBefore i || cleanIn l x b i) ≡ allBelow i (inOrder l x b)
+  unfolding allBelow
+  order-more zero = refl
+  order-more (suc i) = let e : suc i - 1 ≡ i = omega arith in rw (add-one, e)
+
+-- what the loop has found of its places below i; c is the chip
+pub record Scanned (l : Layout) (r : ℕ → Record) (x : ℕ → Page) (c b i : ℕ) (ordered clean : Bool) (named : ℕ) (used : Bool) : Type 0 where
+  pub orders : ordered ≡ allBelow (i - 1) (inOrder l x b)
+  pub cleans : clean ≡ allBelow i (cleanIn l x b)
+  pub names : named ≡ countBelow i (stampedIn l r x c b)
+  pub uses : used ≡ usedBefore l x b i
+
+module _ {l : Layout} {r : ℕ → Record} {x : ℕ → Page} {c b : ℕ} where
+  -- nothing before the first
+  pub scan-start : Scanned l r x c b 0 true true 0 true
+  unfolding allBelow countBelow
+  scan-start = record { orders = refl; cleans = refl; names = refl; uses = refl }
+
+  module _ {i : ℕ} {ordered clean : Bool} {named : ℕ} {used : Bool} (h : Scanned l r x c b i ordered clean named used) where
+    -- with one place more, of which t are the spare bytes
+    pub scan-more : {t : Spare} {named′ : ℕ} → t ≡ spareOf (x (pageIn l b i)) → named′ ≡ named + ones (stampedIn l r x c b i)
+        → Scanned l r x c b (i + 1) (ordered && (used || eqb (t .kind) 255)) (clean && eqb (t .kind) 255) named′ (not (eqb (t .kind) 255))
+    unfolding allBelow
+    scan-more e n =
+        let last : i + 1 - 1 ≡ i = omega arith in
+        record {
+          orders = rw (e, last, h .orders, h .uses) (order-more l x b i);
+          cleans = rw (e, h .cleans, add-one);
+          names = rw (n, h .names, add-one) (sym (count-more i (stampedIn l r x c b)));
+          uses = rw (e, add-one);
+        }
+
+    -- no more names than places so far
+    pub scan-few : named ≤ i
+    scan-few = omega (arith, h .names, count-le i (stampedIn l r x c b))
+
+    -- at the end it is the scan of the block
+    pub scan-all : i ≡ l .K → record { ordered = ordered; clean = clean; named = named } ≡ blockScan l r x c b
+    unfolding blockScan orderedBlock cleanBlock
+    scan-all e = rw (h .orders, h .cleans, h .names, e)
+
+-- ---- chip c, with its pages x
+
+-- what the loop has found of its blocks below b
+pub record Gathered (l : Layout) (r : ℕ → Record) (x : ℕ → Page) (c b : ℕ) (ordered clean : Bool) (named : ℕ) : Type 0 where
+  pub orders : ordered ≡ allBelow b (orderedBlock l x)
+  pub cleans : clean ≡ someBelow b (cleanBlock l x)
+  pub names : named ≡ countBelow (b * l .K) (stamped l r x c)
+
+module _ {l : Layout} {r : ℕ → Record} {x : ℕ → Page} {c : ℕ} where
+  -- nothing before the first
+  pub gather-start : Gathered l r x c 0 true false 0
+  unfolding allBelow someBelow
+  gather-start = record { orders = refl; cleans = refl; names = rw zero-mul (sym (count-start (stamped l r x c))) }
+
+  module _ {b : ℕ} {ordered clean : Bool} {named : ℕ} (h : Gathered l r x c b ordered clean named) where
+    -- with one block more
+    pub gather-more : {s : Scan} → s ≡ blockScan l r x c b
+        → Gathered l r x c (b + 1) (ordered && s .ordered) (clean || s .clean) (named + s .named)
+    unfolding allBelow someBelow blockScan
+    gather-more e =
+        record {
+          orders = rw (e, h .orders, add-one);
+          cleans = rw (e, h .cleans, add-one);
+          names = rw (e, h .names, add-one, suc-mul) (sym (count-from (b * l .K) (l .K) (stamped l r x c)));
+        }
+
+    -- no more names than pages so far
+    pub gather-few : named ≤ b * l .K
+    gather-few = omega (arith, h .names, count-le (b * l .K) (stamped l r x c))
+
+    -- at the end it is the scan of the chip
+    pub gather-all : b ≡ l .B → record { ordered = ordered; clean = clean; named = named } ≡ chipScan l r x c
+    unfolding chipScan
+    gather-all e = rw (h .orders, h .cleans, h .names, e)
+
+-- ---- twins
+
+-- the test of a twin as the code makes it: t and u are the spare bytes of pages p and q, and n says whether q is named
+pub twin-test : (l : Layout) (r : ℕ → Record) (x : ℕ → Page) (c p q : ℕ) {t u : Spare} {n : Bool}
+    → t ≡ spareOf (x p) → u ≡ spareOf (x q) → n ≡ namedPage l r c q
+    → eqb (u .kind) (t .kind) && eqb (u .member) (t .member) && eqb (u .stripe) (t .stripe) && eqb (u .copied) p && not n ≡ twin l r x c p q
+unfolding twin
+twin-test l r x c p q e f g = rw (e, f, g)

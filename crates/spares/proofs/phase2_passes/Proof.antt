@@ -1,0 +1,90 @@
+-- The loop's invariant: the flag says that each named page among the first i places of the victim has one twin.
+use Prim.Native.Nat.{_+_, _-_, _*_, _≤_}
+use native.Mathlib.Numerals.{add-one}
+use native.Mathlib.Omega.{arith}
+use mathlib.Core.Path.{_≡_, refl, sym, _∙_}
+use mathlib.Core.Bool.{and-true}
+use mathlib.Core.Logic.{⊎-elim}
+use Rattle.units.specs.Look.{allBelow}
+use Rattle.layout.specs.Layout.{layoutOf}
+use Rattle.layout.specs.Page.{pageAt}
+use Rattle.layout.specs.Record.{recordAt}
+use Rattle.rules.specs.Sound.{oneTwin, phase2Sound}
+use Rattle.spares.proofs.Scanning.{OnChip, start-low, place-low}
+use Rattle.spares.proofs.phase2_passes.Statement.{statement}
+use Rattle.spares.proofs.phase2_passes.Tie as tie
+
+abbrev Inv-loop : tie.InvT-loop
+Inv-loop chips records g c v d k first copied₀ i₀ copied i =
+    let l = layoutOf g in
+    (i ≤ g .k) × (copied ≡ allBelow i (oneTwin l (recordAt l records) (pageAt l chips c) c v d))
+
+abbrev μ-loop : tie.MeasureT-loop
+μ-loop chips records g c v d k first copied₀ i₀ copied i = g .k - i
+
+mul-first : tie.Need-mul-first Inv-loop μ-loop
+mul-first c =
+    let s = c .before .before in
+    omega (arith, start-low (s .args .g) (s .pre .0 .chips-fit .limited) (s .args .v) (omega arith))
+
+loop-holds : tie.Need-loop-holds Inv-loop μ-loop
+unfolding allBelow
+loop-holds c = (omega arith, refl)
+
+-- the place at hand is a page of the chip
+place : (c : tie.In-loop Inv-loop μ-loop)
+    → let a = c .before .before .before .before .args in
+    OnChip (a .g) (a .v * a .g .k + c .before .loop .i)
+place c =
+    let s = c .before .before .before .before in
+    place-low (s .args .g) (s .pre .0 .chips-fit .limited) (s .args .v) (c .before .loop .i) (s .pre .1) (c .loop-test .taken)
+
+add-p : tie.Need-add-p Inv-loop μ-loop
+add-p c = omega (arith, place c)
+
+named-at-requires : tie.Need-named-at-requires Inv-loop μ-loop
+named-at-requires c κs = (c .before .before .before .before .pre .0, place c .0)
+
+twins-requires : tie.Need-twins-requires Inv-loop μ-loop
+twins-requires c κs = let h = c .before .before .before .before .before .before .pre in (h .0, place (c .before .before) .0, h .2)
+
+add-i : tie.Need-add-i Inv-loop μ-loop
+add-i c = omega arith
+
+loop-less : tie.Need-loop-less Inv-loop μ-loop
+loop-less c = omega arith
+
+loop-again : tie.Need-loop-again Inv-loop μ-loop
+unfolding allBelow
+loop-again c =
+    let s = c .before .before .before .loop in
+    let e = c .before .named-at .ensures in (
+      omega arith,
+      rw add-one
+          (⊎-elim
+          (λ w. rw (← s .inv .1, ← e, w .0 .taken, ← w .1 .ensures) (w .2))
+          (λ w. rw (← s .inv .1, ← e, w .0 .left) (w .1 ∙ sym (and-true (s .copied))))
+          (c .if1 .came)),
+    )
+
+returns : tie.Need-returns Inv-loop μ-loop
+unfolding phase2Sound
+returns c =
+    let last : c .before .loop .i ≡ c .before .before .before .before .args .g .k = omega arith in
+    rw (c .before .loop .inv .1, last)
+
+pub phase2-passes-spec : {M : Type 1} → statement M
+phase2-passes-spec =
+    tie.close
+    (tie.spec
+    Inv-loop
+    μ-loop
+    mul-first
+    loop-holds
+    add-p
+    named-at-requires
+    twins-requires
+    add-i
+    loop-less
+    loop-again
+    returns)
