@@ -1,5 +1,5 @@
 -- Laws of a call under way: lists of steps end to end, a list worked out from the images, a call that is cut stands still.
-use Prim.Native.Nat.{ℕ, _+_, _-_, _≤_, _<_}
+use Prim.Native.Nat.{ℕ, zero, suc, _+_, _-_, _≤_, _<_}
 use native.Mathlib.Nat.{sub-zero, zero-sub, sub-eq-zero-of-le, add-sub-of-le, le-of-lt}
 use native.Mathlib.Numerals.{add-one}
 use native.Mathlib.Omega.{arith}
@@ -10,7 +10,7 @@ use lib.ListN.{length, take, length-append}
 use lib.Seq.{take-all, take-nil, take-append-le, take-append-add}
 use lib.Dec.{ltb}
 use borrow.Author.Tests.{lt-ltb, le-ltb}
-use Rattle.units.proofs.Looks.{by-order, both}
+use Rattle.units.proofs.Looks.{at-last, by-order, both}
 use Rattle.units.proofs.Tests.{or-right}
 use Rattle.layout.specs.Layout.{Layout}
 use Rattle.layout.specs.Images.{Images}
@@ -175,3 +175,14 @@ module _ (l : Layout) where
   -- what is not cut is the whole list
   pub ran-whole : (p q : Progress) (xs : List Step) (s t : Images) → Ran l p xs q s t → q .cut ≡ false → t ≡ applyAll l xs s
   ran-whole p q xs s t h e = by-end p q xs s t h (λ _ c. both (q .cut) c e) (λ w. w)
+
+  -- what is cut in the first lists makes no store of the lists after them
+  pub ran-cut : (p q : Progress) (f : ℕ → Images → List Step) (i n : ℕ) (s t : Images) → i ≤ n → q .cut ≡ true → Ran l p (thenBelow l i f s) q s t
+      → Ran l p (thenBelow l n f s) q s t
+  unfolding thenBelow
+  ran-cut p q f i zero s t low c h = let e : i ≡ 0 = omega arith in rw e at h
+  ran-cut p q f i (suc n) s t low c h = at-last i (suc n) (omega arith)
+      (λ less.
+      ran-then p q q (thenBelow l n f s) (f n) s t t (ran-cut p q f i n s t (omega arith) c h)
+      (ran-still q q [] (f n t) t t (h .sane .spent c) c (ran-none q t (h .sane))))
+      (λ e. rw e at h)

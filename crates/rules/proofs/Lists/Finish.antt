@@ -1,6 +1,6 @@
 -- The end of a collection, which open and collect share: from sound images in any phase, every cut of it keeps what the images hold.
-use Prim.Native.Nat.{ℕ, suc, _+_, _<_}
-use native.Mathlib.Nat.{not-suc-le-zero}
+use Prim.Native.Nat.{ℕ, suc, _+_, _≤_, _<_}
+use native.Mathlib.Nat.{le-refl, not-suc-le-zero}
 use native.Mathlib.Omega.{arith}
 use mathlib.Core.Path.{_≡_, refl, sym, ap, _∙_}
 use mathlib.Core.Logic.{_≢_}
@@ -165,11 +165,12 @@ module _ (l : Layout) (u : Usable l) where
         (move-leads t (k .sound) (ap (λ (o : Collection). o .phase) (m .collection) ∙ busy) i place
         (record { collection = refl; chips = refl; not-due = m .not-due })))
 
-    moves-lead : Leads l (Kept l) (Moved l s K) (thenBelow l K (moveSteps l (collectionAt l (s .records))) s) s
-    moves-lead =
-        leads-then-below l (Kept l) (kept-trans l) (Moved l s) K (moveSteps l (collectionAt l (s .records))) s (kept-refl l s f)
+    -- those before place i
+    pub moves-lead-to : (i : ℕ) → i ≤ K → Leads l (Kept l) (Moved l s i) (thenBelow l i (moveSteps l (collectionAt l (s .records))) s) s
+    moves-lead-to i fits =
+        leads-then-below l (Kept l) (kept-trans l) (Moved l s) i (moveSteps l (collectionAt l (s .records))) s (kept-refl l s f)
         (record { collection = refl; chips = refl; not-due = λ k h. absurd (not-suc-le-zero h) })
-        next-move
+        (λ k h. next-move k (omega arith))
 
     -- then the victim is erased
     last-stores : (t : Images) → Kept l s t → Moved l s K t
@@ -214,7 +215,7 @@ module _ (l : Layout) (u : Usable l) where
         → Leads l (Kept l) (Ended l s) (andThen l (thenBelow l K (moveSteps l was) s) (λ t. ending (was .chip) (was .victim)) s) s
     carried-out e =
         leads-then l (Kept l) (kept-trans l) (Moved l s K) (Ended l s) (thenBelow l K (moveSteps l was) s) (λ t. ending (was .chip) (was .victim)) s
-        (moves-lead s f e)
+        (moves-lead-to s f e K (le-refl K))
         (λ t k m.
         leads-weaken l (Kept l) (Kept l) (BlockErased l s (was .chip) (was .victim)) (Ended l s) (ending (was .chip) (was .victim)) t (λ v h. h)
         (λ v h n. record { is-idle = n .is-idle; wiped-victim = λ two. n })

@@ -88,7 +88,7 @@ module _ (l : Layout) where
         rest = eqb-true (r .rest) 0 (h .1 .1 .1 .1 .0);
       }
 
-  record-pass : (r : Record) → RecordSound l r → recordSound l r ≡ true
+  pub record-pass : (r : Record) → RecordSound l r → recordSound l r ≡ true
   unfolding recordSound
   record-pass r h =
       let slots : slotSound l r ≡ true = cond-equal-by (r .bitmap) 0 (eqb (r .slot) noSlot) (leb (r .slot) M)

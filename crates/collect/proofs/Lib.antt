@@ -1,0 +1,4 @@
+pub mod Statements
+pub mod Repointing
+pub mod Dues
+pub mod Moves

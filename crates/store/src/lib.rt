@@ -1,0 +1,152 @@
+//! The calls of the store. Each answers what its definition says, for any numbers and any buffers.
+
+use checks::geometry_passes;
+use checks::lengths_pass;
+use checks::records_pass;
+use codec::collection_at;
+use collect::finish;
+use device::start;
+use formatting::format_all;
+use gather::fetch;
+use layout::Geometry;
+use rules::Answer;
+use rules::Check;
+use rules::Reading;
+use rules::Refusal;
+use spares::spares_pass;
+use stores::Counts;
+use stores::Progress;
+ghost use mathlib.Core.Path.{_≡_};
+ghost use mathlib.Core.Bool.{Bool, true, cond};
+ghost use mathlib.Core.List.{List};
+ghost use Prim.Native.Nat.{ℕ, _+_, _≤_, _<_};
+ghost use Rattle.layout.specs.Layout.{layoutOf};
+ghost use Rattle.layout.specs.Images.{Images};
+ghost use Rattle.rules.specs.declared.Check.the-variants.{Passed};
+ghost use Rattle.rules.specs.declared.Answer.the-variants.{Cut, Done};
+ghost use Rattle.rules.specs.Refusals.{buffersCheck, imagesCheck};
+ghost use Rattle.rules.specs.Calls.{Outcome, ReadOutcome, formatCall, openCall, readCall};
+ghost use Rattle.stores.specs.Allowance.{images};
+
+// Rows 1 and 2 of the table of refusals.
+fn buffers_check(g: Geometry, chips: &[u8], records: &[u8], slots: &[u8]) -> Check
+    ensures { λ r. ⌜ r ≡ buffersCheck (layoutOf g) (images (now (chips .entry)) (now (records .entry)) (now (slots .entry))) Passed ⌝ }
+{
+    if !geometry_passes(g) {
+        return Check::Failed(Refusal::Geometry);
+    }
+    if !lengths_pass(g, chips, records, slots) {
+        return Check::Failed(Refusal::Buffers);
+    }
+    Check::Passed
+}
+
+// Rows 1 to 5.
+fn images_check(g: Geometry, chips: &[u8], records: &[u8], slots: &[u8], lost: usize) -> Check
+    ensures { λ r. ⌜ r ≡ imagesCheck (layoutOf g) (images (now (chips .entry)) (now (records .entry)) (now (slots .entry))) lost Passed ⌝ }
+{
+    let first = buffers_check(g, chips, records, slots);
+    if let Check::Failed(r) = first {
+        return Check::Failed(r);
+    }
+    let n = g.n as usize;
+    if !((lost == 255) | (lost <= n)) {
+        return Check::Failed(Refusal::LostChip);
+    }
+    if !records_pass(g, records) {
+        return Check::Failed(Refusal::Records);
+    }
+    if !spares_pass(chips, records, g, collection_at(records, g), lost) {
+        return Check::Failed(Refusal::Spares);
+    }
+    Check::Passed
+}
+
+// The answer of a call that stores.
+fn answer(p: Progress) -> Answer
+    ensures { λ r. ⌜ r ≡ cond (p .cut) (Cut (p .counts)) (Done (p .counts)) ⌝ }
+{
+    let counts = p.counts;
+    if p.cut {
+        Answer::Cut(counts)
+    } else {
+        Answer::Done(counts)
+    }
+}
+
+// Makes the images an empty store.
+pub fn format(
+    g: Geometry,
+    chips: &mut [u8],
+    records: &mut [u8],
+    slots: &[u8],
+    allowance: u64,
+) -> Answer
+    ensures { λ r. ⌜ _≡_ {A = Outcome}
+        (record { answer = r; images = images (now (chips .exit)) (now (records .exit)) (now (slots .entry)) })
+        (formatCall (layoutOf g) (images (now (chips .entry)) (now (records .entry)) (now (slots .entry))) allowance) ⌝ }
+{
+    let check = buffers_check(g, chips, records, slots);
+    match check {
+        Check::Failed(r) => Answer::Refused(r),
+        Check::Passed => answer(format_all(chips, records, g, start(allowance))),
+    }
+}
+
+// Finishes what a cut left undone.
+pub fn open(
+    g: Geometry,
+    chips: &mut [u8],
+    records: &mut [u8],
+    slots: &[u8],
+    lost: u64,
+    allowance: u64,
+) -> Answer
+    ensures { λ r. ⌜ _≡_ {A = Outcome}
+        (record { answer = r; images = images (now (chips .exit)) (now (records .exit)) (now (slots .entry)) })
+        (openCall (layoutOf g) (images (now (chips .entry)) (now (records .entry)) (now (slots .entry))) lost allowance) ⌝ }
+{
+    let check = images_check(g, chips, records, slots, lost as usize);
+    if let Check::Failed(r) = check {
+        return Answer::Refused(r);
+    }
+    if lost != 255 {
+        return answer(start(allowance));
+    }
+    answer(finish(chips, records, g, start(allowance)))
+}
+
+// Fills the buffer with a page.
+pub fn read(
+    g: Geometry,
+    chips: &[u8],
+    records: &[u8],
+    slots: &[u8],
+    lost: u64,
+    page: u64,
+    buffer: &mut [u8],
+) -> Reading
+    ensures { λ r. ⌜ _≡_ {A = ReadOutcome}
+        (record { answer = r; buffer = now (buffer .exit) })
+        (readCall (layoutOf g) (images (now (chips .entry)) (now (records .entry)) (now (slots .entry))) lost page (now (buffer .entry))) ⌝ }
+{
+    let check = images_check(g, chips, records, slots, lost as usize);
+    if let Check::Failed(r) = check {
+        return Reading::Refused(r);
+    }
+    if g.n * g.s <= page {
+        return Reading::Refused(Refusal::Request);
+    }
+    if buffer.len() != g.w as usize {
+        return Reading::Refused(Refusal::Data);
+    }
+    let j = (page / g.n) as usize;
+    let m = (page % g.n) as usize;
+    let reads = fetch(buffer, chips, records, slots, g, lost as usize, j, m);
+    Reading::Done(Counts {
+        reads,
+        programs: 0,
+        erases: 0,
+        stores: 0,
+    })
+}
