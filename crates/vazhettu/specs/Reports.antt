@@ -1,0 +1,46 @@
+-- What a foreign caller sees of an answer: its number, and its counts.
+use Rattle.layout.specs.Images.{Images}
+use Rattle.stores.specs.declared.Counts.{Counts}
+use mathlib.Core.List.{List}
+use Prim.Native.Nat.{ℕ}
+use Rattle.rules.specs.declared.Answer.{Answer}
+use Rattle.rules.specs.declared.Reading.{Reading}
+use Rattle.rules.specs.Calls.{Outcome, ReadOutcome, statusOf, countsOf, readStatusOf, readCountsOf}
+use Rattle.vazhettu.specs.declared.Report.{Report}
+
+-- a number and counts
+abbrev pub reportOf : ℕ → Counts → Report
+reportOf status n =
+    record {
+      status = status;
+      reads = n .reads;
+      programs = n .programs;
+      erases = n .erases;
+      stores = n .stores;
+    }
+
+-- of a call that stores
+abbrev pub reported : Answer → Report
+reported a = reportOf (statusOf a) (countsOf a)
+
+-- of a read
+abbrev pub readReported : Reading → Report
+readReported a = reportOf (readStatusOf a) (readCountsOf a)
+
+-- the report of a call, and every byte of the images after it
+pub record Reported : Type 0 where
+  pub report : Report
+  pub images : Images
+
+-- of an outcome
+abbrev pub reportedOf : Outcome → Reported
+reportedOf o = record { report = reported (o .answer); images = o .images }
+
+-- the report of a read, and its buffer
+pub record ReadReported : Type 0 where
+  pub report : Report
+  pub buffer : List ℕ
+
+-- of an outcome
+abbrev pub readReportedOf : ReadOutcome → ReadReported
+readReportedOf o = record { report = readReported (o .answer); buffer = o .buffer }

@@ -1,0 +1,135 @@
+//! The calls for C and Rust: slices as pointer and length, the answer as a struct of numbers.
+
+use layout::Geometry;
+use rules::Answer;
+use rules::Reading;
+use rules::Refusal;
+use stores::Counts;
+ghost use mathlib.Core.Path.{_≡_};
+ghost use Rattle.layout.specs.Layout.{layoutOf};
+ghost use Rattle.stores.specs.Allowance.{images};
+ghost use Rattle.rules.specs.Refusals.{refusalNumber};
+ghost use Rattle.rules.specs.Calls.{formatCall, openCall, readCall};
+ghost use Rattle.vazhettu.specs.Reports.{reportOf, reported, readReported, Reported, reportedOf, ReadReported, readReportedOf};
+
+// 0 for done, 255 for cut, or the number of the refusal; and the counts.
+#[repr(C)]
+pub struct Report {
+    pub status: u64,
+    pub reads: u64,
+    pub programs: u64,
+    pub erases: u64,
+    pub stores: u64,
+}
+
+// The number of a refusal in the table.
+fn number_of(r: Refusal) -> u64
+    ensures { λ n. ⌜ n ≡ refusalNumber r ⌝ }
+{
+    match r {
+        Refusal::Geometry => 1,
+        Refusal::Buffers => 2,
+        Refusal::LostChip => 3,
+        Refusal::Records => 4,
+        Refusal::Spares => 5,
+        Refusal::Collection => 6,
+        Refusal::Request => 7,
+        Refusal::Data => 8,
+        Refusal::ChipSet => 9,
+        Refusal::Work => 10,
+    }
+}
+
+fn with_counts(status: u64, c: Counts) -> Report
+    ensures { λ r. ⌜ r ≡ reportOf status c ⌝ }
+{
+    Report {
+        status,
+        reads: c.reads,
+        programs: c.programs,
+        erases: c.erases,
+        stores: c.stores,
+    }
+}
+
+fn without_counts(r: Refusal) -> Report
+    ensures { λ t. ⌜ t ≡ reportOf (refusalNumber r) (record { reads = 0; programs = 0; erases = 0; stores = 0 }) ⌝ }
+{
+    Report {
+        status: number_of(r),
+        reads: 0,
+        programs: 0,
+        erases: 0,
+        stores: 0,
+    }
+}
+
+fn report_of(a: Answer) -> Report
+    ensures { λ r. ⌜ r ≡ reported a ⌝ }
+{
+    match a {
+        Answer::Done(c) => with_counts(0, c),
+        Answer::Cut(c) => with_counts(255, c),
+        Answer::Refused(r) => without_counts(r),
+    }
+}
+
+fn read_report_of(a: Reading) -> Report
+    ensures { λ r. ⌜ r ≡ readReported a ⌝ }
+{
+    match a {
+        Reading::Done(c) => with_counts(0, c),
+        Reading::Refused(r) => without_counts(r),
+    }
+}
+
+// See store::format.
+#[no_mangle]
+pub extern "C" fn vazhettu_format(
+    g: Geometry,
+    chips: &mut [u8],
+    records: &mut [u8],
+    slots: &[u8],
+    allowance: u64,
+) -> Report
+    ensures { λ r. ⌜ _≡_ {A = Reported}
+        (record { report = r; images = images (now (chips .exit)) (now (records .exit)) (now (slots .entry)) })
+        (reportedOf (formatCall (layoutOf g) (images (now (chips .entry)) (now (records .entry)) (now (slots .entry))) allowance)) ⌝ }
+{
+    report_of(store::format(g, chips, records, slots, allowance))
+}
+
+// See store::open.
+#[no_mangle]
+pub extern "C" fn vazhettu_open(
+    g: Geometry,
+    chips: &mut [u8],
+    records: &mut [u8],
+    slots: &[u8],
+    lost: u64,
+    allowance: u64,
+) -> Report
+    ensures { λ r. ⌜ _≡_ {A = Reported}
+        (record { report = r; images = images (now (chips .exit)) (now (records .exit)) (now (slots .entry)) })
+        (reportedOf (openCall (layoutOf g) (images (now (chips .entry)) (now (records .entry)) (now (slots .entry))) lost allowance)) ⌝ }
+{
+    report_of(store::open(g, chips, records, slots, lost, allowance))
+}
+
+// See store::read.
+#[no_mangle]
+pub extern "C" fn vazhettu_read(
+    g: Geometry,
+    chips: &[u8],
+    records: &[u8],
+    slots: &[u8],
+    lost: u64,
+    page: u64,
+    buffer: &mut [u8],
+) -> Report
+    ensures { λ r. ⌜ _≡_ {A = ReadReported}
+        (record { report = r; buffer = now (buffer .exit) })
+        (readReportedOf (readCall (layoutOf g) (images (now (chips .entry)) (now (records .entry)) (now (slots .entry))) lost page (now (buffer .entry)))) ⌝ }
+{
+    read_report_of(store::read(g, chips, records, slots, lost, page, buffer))
+}

@@ -1,0 +1,84 @@
+/*
+ * The weight store: format, open and read.
+ *
+ * A store is three buffers that the caller lends to every call, as document 01 lays them out:
+ *   chips    (n + 1) * b * k pages of w + 8 bytes
+ *   records  s + 1 records of 32 bytes
+ *   slots    m + 1 pages of w bytes
+ *
+ * Every number and every byte may be anything: a call that cannot be made is refused, with counts of zero and nothing
+ * changed. What a caller must keep: each pointer has as many bytes behind it as its length says, and no two buffers of one
+ * call overlap.
+ */
+#ifndef VAZHETTU_H
+#define VAZHETTU_H
+
+#include <stddef.h>
+#include <stdint.h>
+
+#ifdef __cplusplus
+extern "C" {
+#endif
+
+struct vazhettu_geometry {
+    uint64_t n; /* data pages to a stripe, 2 to 6 */
+    uint64_t w; /* data bytes to a page, 16 to 4096, a multiple of 16 */
+    uint64_t k; /* pages to a block, 2 to 128 */
+    uint64_t b; /* blocks to a chip, 2 to 1024; b * k at most 65535 */
+    uint64_t s; /* stripes, 1 to 65535 */
+    uint64_t m; /* partial parities, 1 to 254; s + m + 1 at most (b - 1) * k */
+};
+
+struct vazhettu_report {
+    uint64_t status;   /* VAZHETTU_DONE, VAZHETTU_CUT, or the refusal */
+    uint64_t reads;    /* pages read */
+    uint64_t programs; /* pages programmed */
+    uint64_t erases;   /* blocks erased */
+    uint64_t stores;   /* stores made, of whatever kind */
+};
+
+enum {
+    VAZHETTU_DONE = 0,
+    VAZHETTU_BAD_GEOMETRY = 1,
+    VAZHETTU_BAD_BUFFERS = 2,
+    VAZHETTU_BAD_LOST_CHIP = 3,
+    VAZHETTU_BAD_RECORDS = 4,
+    VAZHETTU_BAD_SPARES = 5,
+    VAZHETTU_COLLECTION_UNDER_WAY = 6,
+    VAZHETTU_BAD_REQUEST = 7,
+    VAZHETTU_BAD_DATA = 8,
+    VAZHETTU_CHIP_LOST = 9,
+    VAZHETTU_NO_WORK = 10,
+    VAZHETTU_CUT = 255
+};
+
+/* The lost chip of a call that names none. */
+#define VAZHETTU_NO_CHIP 255
+
+/*
+ * Makes the buffers an empty store: erases every block, stores every record empty. The slots stay as they are.
+ * Makes no more stores than the allowance; VAZHETTU_CUT exactly where more were due.
+ */
+struct vazhettu_report vazhettu_format(struct vazhettu_geometry g, uint8_t *chips, size_t chips_len, uint8_t *records,
+                                       size_t records_len, const uint8_t *slots, size_t slots_len, uint64_t allowance);
+
+/*
+ * Finishes a collection that a power cut left under way. With a chip named as lost it makes no store.
+ */
+struct vazhettu_report vazhettu_open(struct vazhettu_geometry g, uint8_t *chips, size_t chips_len, uint8_t *records,
+                                     size_t records_len, const uint8_t *slots, size_t slots_len, uint64_t lost,
+                                     uint64_t allowance);
+
+/*
+ * Fills the buffer, of w bytes, with logical page `page`, below n * s: zeros where it was never written, and rebuilt from the
+ * other chips where its own is named as lost.
+ */
+struct vazhettu_report vazhettu_read(struct vazhettu_geometry g, const uint8_t *chips, size_t chips_len,
+                                     const uint8_t *records, size_t records_len, const uint8_t *slots, size_t slots_len,
+                                     uint64_t lost, uint64_t page, uint8_t *buffer, size_t buffer_len);
+
+#ifdef __cplusplus
+}
+#endif
+
+#endif

@@ -1,0 +1,199 @@
+//! The store's C interface, and safe calls of it on lent copies with guard bytes around them.
+
+use crate::random::Random;
+use crate::reference::{self, Images};
+
+#[repr(C)]
+#[derive(Clone, Copy)]
+pub struct Geometry {
+    n: u64,
+    w: u64,
+    k: u64,
+    b: u64,
+    s: u64,
+    m: u64,
+}
+
+#[repr(C)]
+#[derive(Clone, Copy)]
+pub struct Status {
+    status: u64,
+    reads: u64,
+    programs: u64,
+    erases: u64,
+    stores: u64,
+}
+
+extern "C" {
+    fn vazhettu_format(
+        g: Geometry,
+        chips: *mut u8,
+        chips_len: usize,
+        records: *mut u8,
+        records_len: usize,
+        slots: *const u8,
+        slots_len: usize,
+        allowance: u64,
+    ) -> Status;
+    fn vazhettu_open(
+        g: Geometry,
+        chips: *mut u8,
+        chips_len: usize,
+        records: *mut u8,
+        records_len: usize,
+        slots: *const u8,
+        slots_len: usize,
+        lost: u64,
+        allowance: u64,
+    ) -> Status;
+    fn vazhettu_read(
+        g: Geometry,
+        chips: *const u8,
+        chips_len: usize,
+        records: *const u8,
+        records_len: usize,
+        slots: *const u8,
+        slots_len: usize,
+        lost: u64,
+        page: u64,
+        buffer: *mut u8,
+        buffer_len: usize,
+    ) -> Status;
+}
+
+impl From<reference::Geometry> for Geometry {
+    fn from(g: reference::Geometry) -> Geometry {
+        Geometry { n: g.n, w: g.w, k: g.k, b: g.b, s: g.s, m: g.m }
+    }
+}
+
+impl From<Status> for reference::Status {
+    fn from(s: Status) -> reference::Status {
+        reference::Status {
+            status: s.status,
+            reads: s.reads,
+            programs: s.programs,
+            erases: s.erases,
+            stores: s.stores,
+        }
+    }
+}
+
+const GUARD: usize = 64;
+
+/// A copy lent to the library, at any alignment, between guard bytes.
+pub struct Lent {
+    bytes: Vec<u8>,
+    start: usize,
+    len: usize,
+}
+
+impl Lent {
+    pub fn new(content: &[u8], random: &mut Random) -> Lent {
+        let start = GUARD + random.below(16);
+        let mut bytes = Vec::with_capacity(start + content.len() + GUARD);
+        bytes.extend((0..start).map(guard));
+        bytes.extend_from_slice(content);
+        bytes.extend((start + content.len()..start + content.len() + GUARD).map(guard));
+        Lent { bytes, start, len: content.len() }
+    }
+
+    fn pointer(&mut self) -> *mut u8 {
+        self.bytes[self.start..].as_mut_ptr()
+    }
+
+    pub fn content(&self) -> &[u8] {
+        &self.bytes[self.start..self.start + self.len]
+    }
+
+    /// True when no byte around the copy was changed.
+    pub fn guarded(&self) -> bool {
+        let around = (0..self.start).chain(self.start + self.len..self.bytes.len());
+        around.into_iter().all(|i| self.bytes[i] == guard(i))
+    }
+}
+
+fn guard(i: usize) -> u8 {
+    (i as u8).wrapping_mul(89) ^ 0x3c
+}
+
+/// The three images, lent.
+pub struct LentImages {
+    pub chips: Lent,
+    pub records: Lent,
+    pub slots: Lent,
+}
+
+impl LentImages {
+    pub fn new(images: &Images, random: &mut Random) -> LentImages {
+        LentImages {
+            chips: Lent::new(&images.chips, random),
+            records: Lent::new(&images.records, random),
+            slots: Lent::new(&images.slots, random),
+        }
+    }
+}
+
+pub fn format(g: reference::Geometry, lent: &mut LentImages, allowance: u64) -> reference::Status {
+    let LentImages { chips, records, slots } = lent;
+    // SAFETY: each pointer is to as many bytes as the length beside it, of three vectors.
+    let status = unsafe {
+        vazhettu_format(
+            g.into(),
+            chips.pointer(),
+            chips.len,
+            records.pointer(),
+            records.len,
+            slots.pointer(),
+            slots.len,
+            allowance,
+        )
+    };
+    status.into()
+}
+
+pub fn open(g: reference::Geometry, lent: &mut LentImages, lost: u64, allowance: u64) -> reference::Status {
+    let LentImages { chips, records, slots } = lent;
+    // SAFETY: each pointer is to as many bytes as the length beside it, of three vectors.
+    let status = unsafe {
+        vazhettu_open(
+            g.into(),
+            chips.pointer(),
+            chips.len,
+            records.pointer(),
+            records.len,
+            slots.pointer(),
+            slots.len,
+            lost,
+            allowance,
+        )
+    };
+    status.into()
+}
+
+pub fn read(
+    g: reference::Geometry,
+    lent: &mut LentImages,
+    lost: u64,
+    page: u64,
+    buffer: &mut Lent,
+) -> reference::Status {
+    let LentImages { chips, records, slots } = lent;
+    // SAFETY: each pointer is to as many bytes as the length beside it, of four vectors.
+    let status = unsafe {
+        vazhettu_read(
+            g.into(),
+            chips.pointer(),
+            chips.len,
+            records.pointer(),
+            records.len,
+            slots.pointer(),
+            slots.len,
+            lost,
+            page,
+            buffer.pointer(),
+            buffer.len,
+        )
+    };
+    status.into()
+}
