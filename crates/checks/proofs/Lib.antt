@@ -1,2 +1,4 @@
+pub mod Plains
 pub mod Sizes
 pub mod Tables
+pub mod Totals

@@ -8,14 +8,15 @@ use codec::record_at;
 use layout::Geometry;
 ghost use mathlib.Core.Path.{_≡_};
 ghost use mathlib.Core.Bool.{true};
-ghost use Prim.Native.Nat.{_<_};
+ghost use Prim.Native.Nat.{_≤_, _<_};
 ghost use Rattle.layout.specs.Layout.{layoutOf, limits};
 ghost use Rattle.layout.specs.Record.{recordAt};
 ghost use Rattle.layout.specs.Collection.{collectionAt};
 ghost use Rattle.layout.specs.Images.{lengths};
 ghost use Rattle.rules.specs.Sound.{memberSound, recordSound, collectionSound, recordsSound};
 ghost use Rattle.codec.specs.Fit.{RecordsFit};
-ghost use Rattle.codec.specs.Views.{recordFrom};
+ghost use Rattle.codec.specs.Views.{recordFrom, SmallRecord};
+ghost use Rattle.names.specs.Stamps.{recordNames, namesIn};
 
 // Whether the geometry is within the limits. No product is formed before its factors are known to be small.
 pub fn geometry_passes(g: Geometry) -> bool
@@ -102,6 +103,59 @@ fn record_passes(g: Geometry, e: StripeRecord) -> bool
         & (e.rest == 0)
 }
 
+// The same of a record with nothing in the partial parity: no old page, and a parity page where there is a current one.
+fn plain_passes(g: Geometry, e: StripeRecord) -> bool
+    requires { ⌜ (limits (layoutOf g) ≡ true) × SmallRecord e × (e .bitmap ≡ 0) ⌝ }
+    ensures { λ r. ⌜ r ≡ recordSound (layoutOf g) (recordFrom (layoutOf g) e) ⌝ }
+{
+    let n = g.n as usize;
+    let pages = (g.b * g.k) as usize;
+    let o = e.old;
+    // none is the largest number, so six numbers are all none exactly if their sum is this
+    let no_olds = o[0] + o[1] + o[2] + o[3] + o[4] + o[5] == 393210;
+    let committed = e.parity != 65535;
+    let mut members = true;
+    let mut m = 0;
+    while m < 6 {
+        let current = e.current[m];
+        members = members & ((current == 65535) | ((current < pages) & (m < n) & committed));
+        m += 1;
+    }
+    members & no_olds & (!committed | (e.parity < pages)) & (e.slot == 255) & (e.rest == 0)
+}
+
+// Most records have nothing in the partial parity, and are looked at in the shorter way.
+fn either_passes(g: Geometry, e: StripeRecord) -> bool
+    requires { ⌜ (limits (layoutOf g) ≡ true) × SmallRecord e ⌝ }
+    ensures { λ r. ⌜ r ≡ recordSound (layoutOf g) (recordFrom (layoutOf g) e) ⌝ }
+{
+    if e.bitmap == 0 {
+        return plain_passes(g, e);
+    }
+    record_passes(g, e)
+}
+
+// How many page numbers a record has.
+fn names_of(e: StripeRecord) -> usize
+    ensures { λ r. ⌜ ((g : Geometry) → r ≡ recordNames (layoutOf g) (recordFrom (layoutOf g) e)) × (r ≤ 13) ⌝ }
+{
+    let mut names: usize = 0;
+    let mut m = 0;
+    while m < 6 {
+        if e.current[m] != 65535 {
+            names += 1;
+        }
+        if e.old[m] != 65535 {
+            names += 1;
+        }
+        m += 1;
+    }
+    if e.parity != 65535 {
+        names += 1;
+    }
+    names
+}
+
 // Whether the collection record is sound.
 fn collection_passes(g: Geometry, records: &[u8]) -> bool
     requires { ⌜ RecordsFit g (now records) ⌝ }
@@ -122,10 +176,18 @@ fn collection_passes(g: Geometry, records: &[u8]) -> bool
             & !(co.victim == co.destination))
 }
 
-// Whether the records are sound: one pass, with a table of the slots seen.
-pub fn records_pass(g: Geometry, records: &[u8]) -> bool
+// What a pass over the records brings.
+pub struct RecordsScan {
+    pub sound: bool,
+    // page numbers in all records
+    pub names: usize,
+}
+
+// Whether the records are sound, and how many page numbers they have: one pass, with a table of the slots seen.
+pub fn scan_records(g: Geometry, records: &[u8]) -> RecordsScan
     requires { ⌜ RecordsFit g (now records) ⌝ }
-    ensures { λ r. ⌜ r ≡ recordsSound (layoutOf g) (recordAt (layoutOf g) (now (records .entry))) (collectionAt (layoutOf g) (now (records .entry))) ⌝ }
+    ensures { λ r. ⌜ (r .sound ≡ recordsSound (layoutOf g) (recordAt (layoutOf g) (now (records .entry))) (collectionAt (layoutOf g) (now (records .entry))))
+        × (r .names ≡ namesIn (layoutOf g) (recordAt (layoutOf g) (now (records .entry))) (g .s)) ⌝ }
 {
     let s = g.s as usize;
     let most = g.m as usize;
@@ -133,10 +195,12 @@ pub fn records_pass(g: Geometry, records: &[u8]) -> bool
     let mut sound = true;
     let mut own = true;
     let mut slotted: usize = 0;
+    let mut names: usize = 0;
     let mut j = 0;
     while j < s {
         let e = record_at(records, g, j);
-        sound = sound & record_passes(g, e);
+        sound = sound & either_passes(g, e);
+        names += names_of(e);
         let slot = e.slot;
         let has = slot != 255;
         own = own & (!has | !seen[slot]);
@@ -146,5 +210,9 @@ pub fn records_pass(g: Geometry, records: &[u8]) -> bool
         }
         j += 1;
     }
-    sound & own & (slotted <= most) & collection_passes(g, records)
+    let whole = sound & own & (slotted <= most) & collection_passes(g, records);
+    RecordsScan {
+        sound: whole,
+        names,
+    }
 }

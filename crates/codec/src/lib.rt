@@ -54,8 +54,14 @@ pub fn parity_chip(g: Geometry, j: usize) -> usize
     requires { ⌜ limits (layoutOf g) ≡ true ⌝ }
     ensures { λ r. ⌜ (r ≡ parityChip (layoutOf g) j) × (r ≤ g .n) ⌝ }
 {
-    let n = g.n as usize;
-    n - j % (n + 1)
+    // a remainder by a constant takes no division
+    match g.n as usize {
+        2 => 2 - j % 3,
+        3 => 3 - j % 4,
+        4 => 4 - j % 5,
+        5 => 5 - j % 6,
+        _ => 6 - j % 7,
+    }
 }
 
 // The chip of member m of stripe j.

@@ -4,13 +4,14 @@ use native.Mathlib.Numerals.{add-one}
 use native.Mathlib.Omega.{arith}
 use mathlib.Core.Path.{_≡_, refl, ap}
 use mathlib.Core.Logic.{_≢_}
-use mathlib.Core.Bool.{false, not, _&&_, _||_}
+use mathlib.Core.Bool.{Bool, true, false, not, _&&_, _||_}
 use mathlib.Core.List.{List}
 use lib.Dec.{eqb}
 use borrow.Author.Tests.{lt-ltb, le-ltb, eq-eqb, ne-eqb}
 use Rattle.units.specs.Number.{number}
 use Rattle.units.specs.Units.{part}
 use Rattle.units.proofs.Units.{part-unit}
+use Rattle.units.proofs.Looks.{both}
 use Rattle.units.proofs.Counts.{count-start, count-le}
 use Rattle.layout.specs.declared.Geometry.{Geometry}
 use Rattle.layout.specs.Layout.{Layout, layoutOf, none}
@@ -18,10 +19,9 @@ use Rattle.layout.specs.Rotation.{parityChip, memberOn}
 use Rattle.layout.specs.Page.{Page}
 use Rattle.layout.specs.Record.{Record, sixFrom, recordOf, recordAt}
 use Rattle.rules.specs.Names.{mainNumber, sideNumber, kindOn, memberTag, names}
-use Rattle.codec.specs.Views.{spareOf}
-use Rattle.codec.specs.declared.Spare.{Spare}
+use Rattle.names.specs.declared.Stamp.{Stamp}
 use Rattle.names.specs.declared.StripePages.{StripePages}
-use Rattle.names.specs.Stamps.{pagesOn, stamped, hasMain, hasSide, namesBelow}
+use Rattle.names.specs.Stamps.{stampOf, pagesOn, stamped, hasMain, hasSide, namesBelow}
 use Rattle.names.proofs.Tallies.{ones, count-more}
 
 module _ (g : Geometry) (xs : List ℕ) (j : ℕ) (stripe : j < g .s) where
@@ -58,13 +58,13 @@ module _ (g : Geometry) (xs : List ℕ) (j : ℕ) (stripe : j < g .s) where
 
 -- ---- the test of a stamp as the code makes it, of the spare bytes t of page p
 
-module _ (l : Layout) (r : ℕ → Record) (x : ℕ → Page) (c p : ℕ) (t : Spare) (spare : spareOf (x p) ≡ t) where
+module _ (l : Layout) (r : ℕ → Record) (x : ℕ → Page) (c p : ℕ) (t : Stamp) (spare : stampOf (x p) ≡ t) where
   open Layout l using (S)
 
   -- a stamp of no stripe
   pub stamp-beyond : S ≤ t .stripe → stamped l r x c p ≡ false
   unfolding stamped
-  stamp-beyond h = rw (ap (λ (y : Spare). y .stripe) spare, le-ltb (t .stripe) S h)
+  stamp-beyond h = rw (ap (λ (y : Stamp). y .stripe) spare, le-ltb (t .stripe) S h)
 
   -- that of a stripe, with what its record says of the chip
   pub stamp-test : (e : StripePages) → t .stripe < S → e ≡ pagesOn l c (t .stripe) (r (t .stripe))
@@ -72,9 +72,9 @@ module _ (l : Layout) (r : ℕ → Record) (x : ℕ → Page) (c p : ℕ) (t : S
   unfolding stamped pagesOn names
   stamp-test e h q = rw (
     q,
-    ap (λ (y : Spare). y .stripe) spare,
-    ap (λ (y : Spare). y .kind) spare,
-    ap (λ (y : Spare). y .member) spare,
+    ap (λ (y : Stamp). y .stripe) spare,
+    ap (λ (y : Stamp). y .kind) spare,
+    ap (λ (y : Stamp). y .member) spare,
     lt-ltb (t .stripe) S h,
     eq-eqb (t .stripe) (t .stripe) refl,
   )
@@ -98,3 +98,15 @@ module _ (g : Geometry) (r : ℕ → Record) (c : ℕ) where
   pub names-few : (j : ℕ) → namesBelow (layoutOf g) r c j ≤ 2 * j
   unfolding namesBelow
   names-few j = omega (arith, count-le j (hasMain (layoutOf g) r c), count-le j (hasSide (layoutOf g) r c))
+
+-- a kind or a member that differs
+pub wrong-tag : (a b m : Bool) → not a || not b ≡ true → a && b && m ≡ false
+wrong-tag true true m h = both false h refl
+wrong-tag true false m h = refl
+wrong-tag false b m h = refl
+
+-- neither does
+pub right-tag : (a b m : Bool) → not a || not b ≡ false → a && b && m ≡ m
+right-tag true true m h = refl
+right-tag true false m h = both true refl h
+right-tag false b m h = both true refl h

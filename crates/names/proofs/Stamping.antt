@@ -207,6 +207,11 @@ module _ (l : Layout) (w : Within l) (r : ℕ → Record) (x : ℕ → Page) (c 
         let more = count-or (pages l) (stampedBelow (suc n)) (stampedBelow n) (stampedBy n) (λ p _. stamped-more n p) (λ p _. stamped-apart n p) in
         omega (arith, stripe-count n h, count-more n (foundSome main), count-more n (foundSome side))
 
+    -- no more pages are found by their stamps than there are numbers
+    pub stamps-few : countBelow (pages l) (stamped l r x c) ≤ namesBelow l r c S
+    unfolding stamped namesBelow
+    stamps-few = omega (arith, stamps-count S (le-refl S), found-few main, found-few side)
+
     -- as many pages are found by their stamps as there are numbers exactly where every named page is rightly stamped
     pub tags-counted : eqb (countBelow (pages l) (stamped l r x c)) (namesBelow l r c S) ≡ allBelow S (taggedStripe l r x c)
     unfolding stamped namesBelow taggedStripe

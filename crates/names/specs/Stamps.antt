@@ -1,7 +1,7 @@
 -- Whether a record names a page, found from the page's own spare bytes: only the record of the stripe that they give is looked at.
-use Prim.Native.Nat.{ℕ, _+_, _≤_}
+use Prim.Native.Nat.{ℕ, zero, suc, _+_, _≤_}
 use mathlib.Core.Path.{_≡_}
-use mathlib.Core.Bool.{Bool, true, not, _&&_}
+use mathlib.Core.Bool.{Bool, true, not, cond, _&&_}
 use mathlib.Core.List.{List}
 use lib.Dec.{ltb}
 use Rattle.units.specs.Look.{allBelow, countBelow}
@@ -12,7 +12,12 @@ use Rattle.layout.specs.Record.{Record, recordAt}
 use Rattle.rules.specs.Names.{mainNumber, sideNumber, kindOn, memberTag, names}
 use Rattle.rules.specs.Sound.{taggedPage, taggedStripe}
 use Rattle.codec.specs.Fit.{ChipsFit, RecordsFit}
+use Rattle.names.specs.declared.Stamp.{Stamp}
 use Rattle.names.specs.declared.StripePages.{StripePages}
+
+-- the stamp of a page, as the code's struct
+abbrev pub stampOf : Page → Stamp
+stampOf x = record { kind = x .kind; member = x .member; stripe = x .stripe }
 
 module _ (l : Layout) where
   open Layout l using (S)
@@ -42,6 +47,30 @@ module _ (l : Layout) where
   -- how many pages of chip c the records below n name
   unfoldable pub namesBelow : (ℕ → Record) → ℕ → ℕ → ℕ
   namesBelow r c n = countBelow n (hasMain r c) + countBelow n (hasSide r c)
+
+  -- record r has a current page of member m
+  abbrev pub hasCurrent : Record → ℕ → Bool
+  hasCurrent r m = not (isNone l (r .current m))
+
+  -- and an old one
+  abbrev pub hasOld : Record → ℕ → Bool
+  hasOld r m = not (isNone l (r .old m))
+
+  -- how many page numbers record r has
+  unfoldable pub recordNames : Record → ℕ
+  recordNames r = countBelow 6 (hasCurrent r) + countBelow 6 (hasOld r) + cond (isNone l (r .parity)) 0 1
+
+-- the sum of f 0, f 1, .. below n
+unfoldable pub sumBelow : ℕ → (ℕ → ℕ) → ℕ
+sumBelow zero f = 0
+sumBelow (suc n) f = sumBelow n f + f n
+
+module _ (l : Layout) where
+  open Layout l using (S)
+
+  -- how many page numbers the records below n have
+  abbrev pub namesIn : (ℕ → Record) → ℕ → ℕ
+  namesIn r n = sumBelow n (λ j. recordNames l (r j))
 
 -- each page that a record names on chip c has its stamp
 pub record TagsPass (g : Geometry) (chips records : List ℕ) (c : ℕ) : Type 0 where

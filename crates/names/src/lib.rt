@@ -1,6 +1,5 @@
 //! Which pages the records name.
 
-use codec::Spare;
 use codec::parity_chip;
 use codec::spare_at;
 use layout::Geometry;
@@ -13,8 +12,7 @@ ghost use Rattle.layout.specs.Page.{Page, pageAt};
 ghost use Rattle.layout.specs.Record.{recordAt};
 ghost use Rattle.rules.specs.Names.{named};
 ghost use Rattle.codec.specs.Fit.{RecordsFit};
-ghost use Rattle.codec.specs.Views.{spareOf};
-ghost use Rattle.names.specs.Stamps.{pagesOn, stamped, namesBelow, TagsPass};
+ghost use Rattle.names.specs.Stamps.{stampOf, pagesOn, stamped, namesBelow, TagsPass};
 
 // The pages of a stripe on one chip: their numbers, the side number being an old page's or none, and their stamp.
 pub struct StripePages {
@@ -22,6 +20,13 @@ pub struct StripePages {
     pub side: usize,
     pub kind: usize,
     pub member: usize,
+}
+
+// What a page's spare bytes say of whose it is.
+pub struct Stamp {
+    pub kind: usize,
+    pub member: usize,
+    pub stripe: usize,
 }
 
 // What the record of stripe j says of chip c.
@@ -48,10 +53,10 @@ pub fn stripe_pages(records: &[u8], g: Geometry, c: usize, j: usize) -> StripePa
     }
 }
 
-// Whether page p of chip c, with this spare, is named by the record of the stripe that the spare gives.
-pub fn is_stamped(records: &[u8], g: Geometry, c: usize, p: usize, t: Spare) -> bool
+// Whether page p of chip c, with this stamp, is named by the record of its stripe.
+pub fn is_stamped(records: &[u8], g: Geometry, c: usize, p: usize, t: Stamp) -> bool
     requires { ⌜ RecordsFit g (now records) × (c ≤ g .n) ⌝ }
-    ensures { λ r. ⌜ ((x : ℕ → Page) → spareOf (x p) ≡ t → r ≡ stamped (layoutOf g) (recordAt (layoutOf g) (now (records .entry))) x c p) ⌝ }
+    ensures { λ r. ⌜ ((x : ℕ → Page) → stampOf (x p) ≡ t → r ≡ stamped (layoutOf g) (recordAt (layoutOf g) (now (records .entry))) x c p) ⌝ }
 {
     let s = g.s as usize;
     let j = t.stripe;
@@ -59,7 +64,13 @@ pub fn is_stamped(records: &[u8], g: Geometry, c: usize, p: usize, t: Spare) -> 
         return false;
     }
     let e = stripe_pages(records, g, c, j);
-    (t.kind == e.kind) & (t.member == e.member) & ((e.main == p) | (e.side == p))
+    if (t.kind != e.kind) | (t.member != e.member) {
+        return false;
+    }
+    if e.main == p {
+        return true;
+    }
+    e.side == p
 }
 
 // Whether a record names page p of chip c.
@@ -67,7 +78,13 @@ pub fn named_at(chips: &[u8], records: &[u8], g: Geometry, c: usize, p: usize) -
     requires { ⌜ TagsPass g (now chips) (now records) c × (p < pages (layoutOf g)) ⌝ }
     ensures { λ r. ⌜ r ≡ named (layoutOf g) (recordAt (layoutOf g) (now (records .entry))) c p ⌝ }
 {
-    is_stamped(records, g, c, p, spare_at(chips, g, c, p))
+    let u = spare_at(chips, g, c, p);
+    let t = Stamp {
+        kind: u.kind,
+        member: u.member,
+        stripe: u.stripe,
+    };
+    is_stamped(records, g, c, p, t)
 }
 
 // How many pages of chip c the records name.

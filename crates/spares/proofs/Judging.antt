@@ -1,123 +1,211 @@
--- What the scan of a chip, the number of names and the collection record say of the chip.
-use Prim.Native.Nat.{ℕ, _≤_, _<_}
+-- The verdict on the spares in three parts: the stamps of all named pages, the shape of every chip, and the collection under way.
+use Prim.Native.Nat.{ℕ, zero, suc, _+_, _*_, _≤_, _<_}
+use native.Mathlib.Numerals.{add-one}
 use native.Mathlib.Omega.{arith}
-use mathlib.Core.Path.{_≡_, sym, ap, _∙_}
+use mathlib.Core.Path.{_≡_, refl, sym, ap, _∙_}
 use mathlib.Core.Logic.{_≢_}
-use mathlib.Core.Bool.{Bool, true, false, cond, _&&_, _||_, and-false}
+use mathlib.Core.Bool.{Bool, true, false, not, cond, _&&_, _||_, and-true, and-false, and-assoc, or-true, or-false}
 use mathlib.Core.List.{List}
 use lib.Dec.{eqb}
 use borrow.Author.Tests.{eq-eqb, ne-eqb}
-use Rattle.units.specs.Look.{allBelow, someBelow}
+use Rattle.units.specs.Look.{allBelow, someBelow, countBelow}
+use Rattle.units.proofs.Looks.{both, by-same, all-true, all-at, all-cong}
+use Rattle.units.proofs.Counts.{count-le}
+use Rattle.units.proofs.Tests.{or-else}
 use Rattle.layout.specs.declared.Geometry.{Geometry}
-use Rattle.layout.specs.Layout.{layoutOf}
-use Rattle.layout.specs.Page.{pageAt}
-use Rattle.layout.specs.Record.{recordAt}
-use Rattle.layout.specs.Collection.{collectionAt}
+use Rattle.layout.specs.Layout.{Layout, layoutOf, pages}
+use Rattle.layout.specs.Page.{Page, pageAt}
+use Rattle.layout.specs.Record.{Record, recordAt}
+use Rattle.layout.specs.Collection.{Collection, collectionAt}
 use Rattle.layout.proofs.Limits.{within}
 use Rattle.rules.specs.Blocks.{cleanBlock, orderedBlock}
-use Rattle.rules.specs.Sound.{taggedStripe, phase1Sound, phase2Sound, chipSound}
+use Rattle.rules.specs.Sound.{collecting, taggedStripe, phase1Sound, phase2Sound, chipSound, soundOrLost, sparesSound}
 use Rattle.rules.proofs.Soundness.Statements.{RecordsSound}
 use Rattle.rules.proofs.Soundness.RecordChecks.{records-sound}
 use Rattle.codec.specs.declared.CollectionRecord.{CollectionRecord}
 use Rattle.codec.specs.Fit.{ChipsFit}
 use Rattle.codec.specs.Views.{CollectionIs}
-use Rattle.names.specs.Stamps.{namesBelow, TagsPass}
-use Rattle.names.proofs.Stamping.{tags-counted}
+use Rattle.names.specs.Stamps.{stamped, sumBelow, TagsPass}
+use Rattle.names.proofs.Tallies.{same-tests}
 use Rattle.spares.specs.declared.Scan.{Scan}
-use Rattle.spares.specs.Scans.{chipScan, RecordsPass}
+use Rattle.spares.specs.Scans.{chipScan, phaseSound, RecordsPass}
+use Rattle.names.proofs.Totals.{foundOn, taggedOrLost, namesKept, total-tags}
 
--- chip c has been scanned, with s as the answer, and the records have n names on it; co is the collection record
-pub record Looked (g : Geometry) (chips records : List ℕ) (co : CollectionRecord) (c : ℕ) (s : Scan) (n : ℕ) : Type 0 where
-  pub chips-fit : ChipsFit g chips
-  pub records-pass : RecordsPass g records
-  pub collection : CollectionIs co (collectionAt (layoutOf g) records)
-  pub chip : c ≤ g .n
-  pub scan : s ≡ chipScan (layoutOf g) (recordAt (layoutOf g) records) (pageAt (layoutOf g) chips c) c
-  pub names : n ≡ namesBelow (layoutOf g) (recordAt (layoutOf g) records) c (g .s)
+-- ---- tests
 
--- whether the chip is sound
-abbrev verdict : Geometry → List ℕ → List ℕ → ℕ → Bool
-verdict g chips records c =
-    let l = layoutOf g in
-    chipSound l (recordAt l records) (pageAt l chips c) c (collectionAt l records)
+-- all numbers pass both tests exactly where all pass each
+all-both : (n : ℕ) (f g : ℕ → Bool) → allBelow n (λ i. f i && g i) ≡ allBelow n f && allBelow n g
+unfolding allBelow
+all-both zero f g = refl
+all-both (suc n) f g = rw (all-both n f g) (swap (allBelow n f) (allBelow n g) (f n) (g n))
+  where
+    swap : (a b c d : Bool) → (a && b) && (c && d) ≡ (a && c) && (b && d)
+    swap true true c d = refl
+    swap true false true d = refl
+    swap true false false d = refl
+    swap false b c d = refl
 
-module _ {g : Geometry} {chips records : List ℕ} {co : CollectionRecord} {c : ℕ} {s : Scan} {n : ℕ} (h : Looked g chips records co c s n) where
+-- the test of one chip in three: lost or not, tags, order, clean block, phase 1, phase 2, the collection's chip, and what the phases ask
+split : (lost t o k e f h p q : Bool)
+    → lost || (t && o && cond ((e || f) && h) (cond e p q) k)
+    ≡ (lost || t) && ((lost || (o && (k || ((e || f) && h)))) && (lost || (not ((e || f) && h) || cond e p (cond f q true))))
+split true t o k e f h p q = refl
+split false t o k true f true p q = rw (or-true k, and-true o) (and-assoc t o p)
+split false t o k true f false p q = rw (or-false k, and-true (o && k)) (and-assoc t o k)
+split false t o k false true true p q = rw (or-true k, and-true o) (and-assoc t o q)
+split false t o k false true false p q = rw (or-false k, and-true (o && k)) (and-assoc t o k)
+split false t o k false false h p q = rw (or-false k, and-true (o && k)) (and-assoc t o k)
+
+-- outside phases 1 and 2 the phases ask nothing
+idle : (lost e f p q : Bool) → lost || (not ((e || f) && true) || cond e p (cond f q true)) ≡ lost || cond e p (cond f q true)
+idle lost true f p q = refl
+idle lost false true p q = refl
+idle lost false false p q = refl
+
+-- ---- all chips, with the pages y of each
+
+module _ (l : Layout) (r : ℕ → Record) (y : ℕ → ℕ → Page) (co : Collection) (lost : ℕ) where
+  open Layout l using (N, B)
+
+  -- every block of chip c is in order and some block is clean or collected into, or the chip is lost
+  abbrev pub shapedOrLost : ℕ → Bool
+  shapedOrLost c = eqb c lost || (allBelow B (orderedBlock l (y c)) && (someBelow B (cleanBlock l (y c)) || collecting co c))
+
+  -- what the phase asks of chip c
+  abbrev phaseOn : ℕ → Bool
+  phaseOn c = cond (eqb (co .phase) 1) (phase1Sound l r c (co .destination)) (cond (eqb (co .phase) 2) (phase2Sound l r (y c) c (co .victim) (co .destination)) true)
+
+  -- the collection is sound on chip c, or not there, or the chip is lost
+  abbrev phasedOrLost : ℕ → Bool
+  phasedOrLost c = eqb c lost || (not (collecting co c) || phaseOn c)
+
+  -- only the collection's chip is asked
+  one-phased : co .chip ≤ N → allBelow (N + 1) phasedOrLost ≡ eqb (co .chip) lost || phaseSound l r (y (co .chip)) co
+  unfolding phaseSound
+  one-phased low =
+      let e = idle (eqb (co .chip) lost) (eqb (co .phase) 1) (eqb (co .phase) 2) (phase1Sound l r (co .chip) (co .destination))
+      (phase2Sound l r (y (co .chip)) (co .chip) (co .victim) (co .destination)) in
+      let here : phasedOrLost (co .chip) ≡ eqb (co .chip) lost || phaseOn (co .chip) = rw (eq-eqb (co .chip) (co .chip) refl) e in
+      same-tests (allBelow (N + 1) phasedOrLost) (eqb (co .chip) lost || phaseOn (co .chip))
+      (λ t. sym here ∙ all-at (N + 1) phasedOrLost t (co .chip) (omega arith))
+      (λ t. all-true (N + 1) phasedOrLost (λ c _. by-same (co .chip) c
+      (λ q. rw (← q) (here ∙ t))
+      (λ d. rw (ne-eqb (co .chip) c d, and-false (eqb (co .phase) 1 || eqb (co .phase) 2), or-true (eqb c lost)))))
+
+  -- the verdict in three parts
+  pub three-parts : co .chip ≤ N
+      → allBelow (N + 1) (taggedOrLost l r y lost) && (allBelow (N + 1) shapedOrLost && (eqb (co .chip) lost || phaseSound l r (y (co .chip)) co))
+      ≡ sparesSound l r y co lost
+  unfolding sparesSound chipSound
+  three-parts low =
+      let tagged = taggedOrLost l r y lost in
+      let parts : ℕ → Bool = λ c. tagged c && (shapedOrLost c && phasedOrLost c) in
+      let each : allBelow (N + 1) (soundOrLost l r y co lost) ≡ allBelow (N + 1) parts = all-cong (N + 1) (soundOrLost l r y co lost) parts (λ c _.
+      split (eqb c lost) (allBelow (l .S) (taggedStripe l r (y c) c)) (allBelow B (orderedBlock l (y c))) (someBelow B (cleanBlock l (y c)))
+      (eqb (co .phase) 1) (eqb (co .phase) 2) (eqb (co .chip) c) (phase1Sound l r c (co .destination)) (phase2Sound l r (y c) c (co .victim) (co .destination))) in
+      sym (each
+      ∙ all-both (N + 1) tagged (λ c. shapedOrLost c && phasedOrLost c)
+      ∙ ap (λ (t : Bool). allBelow (N + 1) tagged && t) (all-both (N + 1) shapedOrLost phasedOrLost ∙ ap (λ (t : Bool). allBelow (N + 1) shapedOrLost && t) (one-phased low)))
+
+  -- ---- the loop over the chips
+
+  -- what it has found of the chips below c
+  pub record Judged (c named : ℕ) (shaped : Bool) : Type 0 where
+    pub names : named ≡ sumBelow c (foundOn l r y lost)
+    pub shapes : shaped ≡ allBelow c shapedOrLost
+
+-- nothing before the first
+pub judge-start : {l : Layout} {r : ℕ → Record} {y : ℕ → ℕ → Page} {co : Collection} {lost : ℕ} → Judged l r y co lost 0 0 true
+unfolding sumBelow allBelow
+judge-start = record { names = refl; shapes = refl }
+
+module _ {l : Layout} {r : ℕ → Record} {y : ℕ → ℕ → Page} {co : Collection} {lost c named : ℕ} {shaped : Bool} (h : Judged l r y co lost c named shaped) where
+  -- with one chip more that is not lost, of which s is the scan
+  pub judge-more : {s : Scan} → c ≢ lost → s ≡ chipScan l r (y c) c
+      → Judged l r y co lost (c + 1) (named + s .named) (shaped && s .ordered && (s .clean || collecting co c))
+  unfolding sumBelow allBelow chipScan
+  judge-more d e = record {
+    names = rw (e, h .names, add-one, ne-eqb c lost d);
+    shapes = rw (e, h .shapes, add-one, ne-eqb c lost d) (and-assoc (allBelow c (shapedOrLost l r y co lost)) (allBelow (l .B) (orderedBlock l (y c))) (someBelow (l .B) (cleanBlock l (y c)) || collecting co c));
+  }
+
+  -- with the lost one
+  pub judge-lost : c ≡ lost → Judged l r y co lost (c + 1) named shaped
+  unfolding sumBelow allBelow
+  judge-lost e = record {
+    names = rw (add-one, eq-eqb c lost e) (omega (arith, h .names));
+    shapes = rw (add-one, eq-eqb c lost e, and-true (allBelow c (shapedOrLost l r y co lost))) (h .shapes);
+  }
+
+-- a chip of a geometry within its limits has at most 65,535 pages, so the names are few
+pub judge-few : (l : Layout) (r : ℕ → Record) (y : ℕ → ℕ → Page) (lost : ℕ) → pages l ≤ 65535 → (c : ℕ) → sumBelow c (foundOn l r y lost) ≤ c * 65535
+unfolding sumBelow
+judge-few l r y lost few zero = omega arith
+judge-few l r y lost few (suc c) =
+    omega (arith, judge-few l r y lost few c, at-most (eqb c lost) (countBelow (pages l) (stamped l r (y c) c)) (count-le (pages l) (stamped l r (y c) c)))
+  where
+    at-most : (b : Bool) (n : ℕ) → n ≤ pages l → cond b 0 n ≤ pages l
+    at-most true n h = omega arith
+    at-most false n h = h
+
+-- ---- the images
+
+module _ {g : Geometry} {records : List ℕ} {co : CollectionRecord} (pass : RecordsPass g records) (is : CollectionIs co (collectionAt (layoutOf g) records)) where
   -- the records are sound, as statements
-  statements : RecordsSound (layoutOf g) (recordAt (layoutOf g) records) (collectionAt (layoutOf g) records)
-  statements = let l = layoutOf g in records-sound l (recordAt l records) (collectionAt l records) (h .records-pass .pass)
+  pub statements : RecordsSound (layoutOf g) (recordAt (layoutOf g) records) (collectionAt (layoutOf g) records)
+  statements = let l = layoutOf g in records-sound l (recordAt l records) (collectionAt l records) (pass .pass)
 
   -- outside phase 0 both blocks of the collection are there
   pub blocks-low : co .phase ≢ 0 → (co .victim < g .b) × (co .destination < g .b)
   blocks-low d =
-      let is = h .collection in
       let busy : collectionAt (layoutOf g) records .phase ≢ 0 = λ e. d (is .phase ∙ e) in
       rw (is .victim, is .destination) (statements .collection .victim busy, statements .collection .destination busy)
 
-  -- every named page is rightly stamped exactly where as many are found as there are names
-  tags-test : eqb (s .named) n ≡ allBelow (g .s) (taggedStripe (layoutOf g) (recordAt (layoutOf g) records) (pageAt (layoutOf g) chips c) c)
-  unfolding chipScan
-  tags-test =
-      let l = layoutOf g in
-      rw (h .scan, h .names)
-      (tags-counted l (within l (h .chips-fit .limited)) (recordAt l records) (pageAt l chips c) c (omega (arith, h .chip)) (statements .stripe))
+  -- its chip is there in every phase
+  chip-low : collectionAt (layoutOf g) records .chip ≤ g .n
+  chip-low =
+      let h = statements .collection in
+      by-same (collectionAt (layoutOf g) records .phase) 0 (λ e. rw (h .at-rest e .0) (omega arith)) (h .chip)
 
-  -- where they are not as many, the chip is not sound
-  pub untagged : s .named ≢ n → false ≡ verdict g chips records c
-  unfolding chipSound
-  untagged d = rw (← tags-test, ne-eqb (s .named) n d)
+  -- the loop has gone through all chips, and kept is the number of names on those that are not lost
+  module _ {chips : List ℕ} {lost named kept i : ℕ} {shaped : Bool} (fit : ChipsFit g chips)
+      (h : Judged (layoutOf g) (recordAt (layoutOf g) records) (pageAt (layoutOf g) chips) (collectionAt (layoutOf g) records) lost i named shaped)
+      (end : i ≡ g .n + 1) (kept-is : kept ≡ namesKept (layoutOf g) (recordAt (layoutOf g) records) lost) where
+    -- every named page is rightly stamped exactly where as many are found as there are names
+    tags-test : eqb named kept ≡ allBelow (g .n + 1) (taggedOrLost (layoutOf g) (recordAt (layoutOf g) records) (pageAt (layoutOf g) chips) lost)
+    tags-test =
+        let l = layoutOf g in
+        rw (h .names, end, kept-is) (total-tags l (within l (fit .limited)) (recordAt l records) (statements .stripe) (pageAt l chips) lost)
 
-  -- what the scan says of the order and of clean blocks
-  orders : s .ordered ≡ allBelow (g .b) (orderedBlock (layoutOf g) (pageAt (layoutOf g) chips c))
-  unfolding chipScan
-  orders = ap (λ (y : Scan). y .ordered) (h .scan)
+    -- the verdict as the code comes to it
+    pub verdict : let l = layoutOf g in
+        eqb named kept && (shaped && (eqb (co .chip) lost || phaseSound l (recordAt l records) (pageAt l chips (co .chip)) (collectionAt l records)))
+        ≡ sparesSound l (recordAt l records) (pageAt l chips) (collectionAt l records) lost
+    verdict =
+        let l = layoutOf g in
+        rw (tags-test, h .shapes, end, is .chip) (three-parts l (recordAt l records) (pageAt l chips) (collectionAt l records) lost chip-low)
 
-  cleans : s .clean ≡ someBelow (g .b) (cleanBlock (layoutOf g) (pageAt (layoutOf g) chips c))
-  unfolding chipScan
-  cleans = ap (λ (y : Scan). y .clean) (h .scan)
+    -- as many names as are kept: on the collection's chip, if it is not lost, every named page is rightly stamped
+    pub tags-pass : eqb named kept ≡ true → co .chip ≢ lost → TagsPass g chips records (co .chip)
+    tags-pass t d =
+        let l = layoutOf g in
+        let low : co .chip ≤ g .n = rw (is .chip) chip-low in
+        let tagged = taggedOrLost l (recordAt l records) (pageAt l chips) lost in
+        record {
+          chips-fit = fit;
+          records-fit = pass .fit;
+          chip = low;
+          tags = or-else (eqb (co .chip) lost) (allBelow (g .s) (taggedStripe l (recordAt l records) (pageAt l chips (co .chip)) (co .chip)))
+              (all-at (g .n + 1) tagged (sym tags-test ∙ t) (co .chip) (omega arith)) (ne-eqb (co .chip) lost d);
+        }
 
-  -- it is not sound either where a block is out of order
-  pub disordered : s .ordered ≡ false → false ≡ verdict g chips records c
-  unfolding chipSound
-  disordered e = rw (← orders, e, and-false)
+-- what the test of the names and of the shapes tells
+pub refused : (a b p : Bool) → not a || not b ≡ true → false ≡ a && (b && p)
+refused true true p e = both false e refl
+refused true false p e = refl
+refused false b p e = refl
 
-  module _ (tagged : s .named ≡ n) where
-    -- every named page is rightly stamped
-    pub tags-pass : TagsPass g chips records c
-    tags-pass = record {
-      chips-fit = h .chips-fit;
-      records-fit = h .records-pass .fit;
-      chip = h .chip;
-      tags = sym tags-test ∙ eq-eqb (s .named) n tagged;
-    }
-
-    module _ (ordered : s .ordered ≡ true) where
-      -- with every block in order too, the phase decides on the chip of a collection, and a clean block elsewhere
-      judged : let l = layoutOf g in
-          cond ((eqb (co .phase) 1 || eqb (co .phase) 2) && eqb (co .chip) c)
-          (cond (eqb (co .phase) 1)
-          (phase1Sound l (recordAt l records) c (co .destination))
-          (phase2Sound l (recordAt l records) (pageAt l chips c) c (co .victim) (co .destination)))
-          (s .clean)
-          ≡ verdict g chips records c
-      unfolding chipSound
-      judged =
-          let is = h .collection in
-          rw (is .phase, is .chip, is .victim, is .destination, tags-pass .tags, ← orders, ordered, cleans)
-
-      -- the collection is not on this chip
-      pub other-chip : co .chip ≢ c → s .clean ≡ verdict g chips records c
-      other-chip d = rw (ne-eqb (co .chip) c d, and-false) at judged
-
-      -- none is in phase 1 or 2
-      pub at-rest : co .phase ≢ 1 → co .phase ≢ 2 → s .clean ≡ verdict g chips records c
-      at-rest d e = rw (ne-eqb (co .phase) 1 d, ne-eqb (co .phase) 2 e) at judged
-
-      -- phase 1
-      pub in-phase1 : co .chip ≡ c → co .phase ≡ 1
-          → phase1Sound (layoutOf g) (recordAt (layoutOf g) records) c (co .destination) ≡ verdict g chips records c
-      in-phase1 e p = rw (eq-eqb (co .chip) c e, eq-eqb (co .phase) 1 p) at judged
-
-      -- phase 2
-      pub in-phase2 : co .chip ≡ c → co .phase ≡ 2
-          → phase2Sound (layoutOf g) (recordAt (layoutOf g) records) (pageAt (layoutOf g) chips c) c (co .victim) (co .destination) ≡ verdict g chips records c
-      in-phase2 e p = rw (eq-eqb (co .chip) c e, p) at judged
+pub accepted : (a b : Bool) → not a || not b ≡ false → (a ≡ true) × (b ≡ true)
+accepted true true e = (refl, refl)
+accepted true false e = both true refl e
+accepted false b e = both true refl e

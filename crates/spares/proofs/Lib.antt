@@ -1,2 +1,3 @@
+pub mod Fetching
 pub mod Judging
 pub mod Scanning

@@ -76,9 +76,9 @@ module _ {l : Layout} {r : ℕ → Record} {x : ℕ → Page} {c b : ℕ} where
   scan-start = record { orders = refl; cleans = refl; names = refl; uses = refl }
 
   module _ {i : ℕ} {ordered clean : Bool} {named : ℕ} {used : Bool} (h : Scanned l r x c b i ordered clean named used) where
-    -- with one place more, of which t are the spare bytes
-    pub scan-more : {t : Spare} {named′ : ℕ} → t ≡ spareOf (x (pageIn l b i)) → named′ ≡ named + ones (stampedIn l r x c b i)
-        → Scanned l r x c b (i + 1) (ordered && (used || eqb (t .kind) 255)) (clean && eqb (t .kind) 255) named′ (not (eqb (t .kind) 255))
+    -- with one place more, of which k is the kind
+    pub scan-more : {k named′ : ℕ} → k ≡ x (pageIn l b i) .kind → named′ ≡ named + ones (stampedIn l r x c b i)
+        → Scanned l r x c b (i + 1) (ordered && (used || eqb k 255)) (clean && eqb k 255) named′ (not (eqb k 255))
     unfolding allBelow
     scan-more e n =
         let last : i + 1 - 1 ≡ i = omega arith in
@@ -88,10 +88,6 @@ module _ {l : Layout} {r : ℕ → Record} {x : ℕ → Page} {c b : ℕ} where
           names = rw (n, h .names, add-one) (sym (count-more i (stampedIn l r x c b)));
           uses = rw (e, add-one);
         }
-
-    -- no more names than places so far
-    pub scan-few : named ≤ i
-    scan-few = omega (arith, h .names, count-le i (stampedIn l r x c b))
 
     -- at the end it is the scan of the block
     pub scan-all : i ≡ l .K → record { ordered = ordered; clean = clean; named = named } ≡ blockScan l r x c b

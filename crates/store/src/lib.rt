@@ -2,7 +2,7 @@
 
 use checks::geometry_passes;
 use checks::lengths_pass;
-use checks::records_pass;
+use checks::scan_records;
 use codec::collection_at;
 use collect::finish;
 use device::start;
@@ -53,10 +53,12 @@ fn images_check(g: Geometry, chips: &[u8], records: &[u8], slots: &[u8], lost: u
     if !((lost == 255) | (lost <= n)) {
         return Check::Failed(Refusal::LostChip);
     }
-    if !records_pass(g, records) {
+    let scan = scan_records(g, records);
+    if !scan.sound {
         return Check::Failed(Refusal::Records);
     }
-    if !spares_pass(chips, records, g, collection_at(records, g), lost) {
+    let co = collection_at(records, g);
+    if !spares_pass(chips, records, g, co, scan.names, lost) {
         return Check::Failed(Refusal::Spares);
     }
     Check::Passed

@@ -1,29 +1,63 @@
--- The code is the definition; the limits keep n + 1 from overflow.
-use Prim.Native.Nat.{_+_, _<_}
+-- Each arm is the definition at its number; the limits leave 6 to the last.
+use Prim.Native.Nat.{ℕ, _+_, _-_, _%_, _≤_}
 use native.Mathlib.Omega.{arith}
-use native.Mathlib.Nat.{mod-lt}
-use mathlib.Core.Path.{refl}
+use mathlib.Core.Path.{_≡_}
 use borrow.Author.Needs.{needs}
+use Rattle.layout.specs.declared.Geometry.{Geometry}
 use Rattle.layout.specs.Layout.{layoutOf}
 use Rattle.layout.specs.Rotation.{parityChip}
 use Rattle.layout.proofs.Limits.{within}
 use Rattle.codec.proofs.parity_chip.Statement.{statement}
 use Rattle.codec.proofs.parity_chip.Tie as tie
 
-add-result : tie.Need-add-result
-add-result c = omega (arith, within (layoutOf (c .args .g)) (c .pre))
-
-rem-result : tie.Need-rem-result
-rem-result c = search needs
+rotated : (g : Geometry) (j n : ℕ) → g .n ≡ n → (n - j % (n + 1) ≡ parityChip (layoutOf g) j) × (n - j % (n + 1) ≤ g .n)
+unfolding parityChip
+rotated g j n e = (rw e, omega arith)
 
 sub-result : tie.Need-sub-result
-sub-result c =
-    let h : 0 < c .args .g .n + 1 = omega arith in
-    omega (arith, mod-lt (c .args .j) h)
+sub-result c = search needs
+
+sub-result-2 : tie.Need-sub-result-2
+sub-result-2 c = search needs
+
+sub-result-3 : tie.Need-sub-result-3
+sub-result-3 c = search needs
+
+sub-result-4 : tie.Need-sub-result-4
+sub-result-4 c = search needs
+
+sub-result-5 : tie.Need-sub-result-5
+sub-result-5 c = search needs
 
 returns : tie.Need-returns
-unfolding parityChip
-returns c = (refl, omega arith)
+returns c = rotated (c .before .args .g) (c .before .args .j) 2 (c .match .keys1)
+
+returns-2 : tie.Need-returns-2
+returns-2 c = rotated (c .before .args .g) (c .before .args .j) 3 (c .match .keys2)
+
+returns-3 : tie.Need-returns-3
+returns-3 c = rotated (c .before .args .g) (c .before .args .j) 4 (c .match .keys3)
+
+returns-4 : tie.Need-returns-4
+returns-4 c = rotated (c .before .args .g) (c .before .args .j) 5 (c .match .keys4)
+
+returns-5 : tie.Need-returns-5
+returns-5 c =
+    let w = within (layoutOf (c .before .args .g)) (c .before .pre) in
+    let d = c .match .rest in
+    rotated (c .before .args .g) (c .before .args .j) 6 (omega (arith, w .members-low, w .members-high, d .1, d .0 .1, d .0 .0 .1, d .0 .0 .0 .1))
 
 pub parity-chip-spec : {M : Type 1} → statement M
-parity-chip-spec = tie.close (tie.spec add-result rem-result sub-result returns)
+parity-chip-spec =
+    tie.close
+    (tie.spec
+    sub-result
+    sub-result-2
+    sub-result-3
+    sub-result-4
+    sub-result-5
+    returns
+    returns-2
+    returns-3
+    returns-4
+    returns-5)

@@ -1,8 +1,8 @@
 -- Rows 1 and 2 come from `buffers_check`; each return after that settles one test more.
 use mathlib.Core.Path.{refl, sym, _∙_}
 use mathlib.Core.Bool.{true, false}
-use borrow.Author.Tests.{not-true, not-false}
 use borrow.Author.Needs.{needs}
+use borrow.Author.Tests.{not-true, not-false}
 use Rattle.store.proofs.Results.{passed, failed, buffers-fit, images-first, images-next}
 use Rattle.store.proofs.images_check.Statement.{statement}
 use Rattle.store.proofs.images_check.Tie as tie
@@ -24,28 +24,28 @@ returns-2 : tie.Need-returns-2
 returns-2 c =
     images-next _ _ _ false _ _ (sym (c .before .before .before .buffers-check .ensures) ∙ c .before .enum-told .given .1) (not-true _ (c .if1 .taken)) refl refl
 
-records-pass-requires : tie.Need-records-pass-requires
-records-pass-requires c κs = buffers-fit _ _ (sym (c .before .before .before .buffers-check .ensures) ∙ c .before .enum-told .given .1) .records
+scan-records-requires : tie.Need-scan-records-requires
+scan-records-requires c κs = buffers-fit _ _ (sym (c .before .before .before .buffers-check .ensures) ∙ c .before .enum-told .given .1) .records
 
 returns-3 : tie.Need-returns-3
 returns-3 c =
-    images-next _ _ _ true false _ (sym (c .before .before .before .before .before .buffers-check .ensures) ∙ c .before .before .before .enum-told .given .1) (not-false _ (c .before .before .if1 .left)) (failed (c .before .records-pass .ensures) (c .if2 .taken)) refl
+    images-next _ _ _ true false _ (sym (c .before .before .before .before .before .before .buffers-check .ensures) ∙ c .before .before .before .before .enum-told .given .1) (not-false _ (c .before .before .before .if1 .left)) (failed (c .before .before .scan-records .ensures .0) (c .if2 .taken)) refl
 
 collection-at-requires : tie.Need-collection-at-requires
-collection-at-requires c κs = buffers-fit _ _ (sym (c .before .before .before .before .before .buffers-check .ensures) ∙ c .before .before .before .enum-told .given .1) .records
+collection-at-requires c κs = buffers-fit _ _ (sym (c .before .before .before .before .before .before .buffers-check .ensures) ∙ c .before .before .before .before .enum-told .given .1) .records
 
 spares-pass-requires : tie.Need-spares-pass-requires
 spares-pass-requires c κs =
-    let fit = buffers-fit _ _ (sym (c .before .before .before .before .before .before .buffers-check .ensures) ∙ c .before .before .before .before .enum-told .given .1) in
-    (fit .chips, record { fit = fit .records; pass = passed (c .before .before .records-pass .ensures) (c .before .if2 .left) }, c .collection-at .ensures)
+    let fit = buffers-fit _ _ (sym (c .before .before .before .before .before .before .before .buffers-check .ensures) ∙ c .before .before .before .before .before .enum-told .given .1) in
+    (fit .chips, record { fit = fit .records; pass = passed (c .before .before .before .scan-records .ensures .0) (c .before .if2 .left) }, c .collection-at .ensures, c .before .before .before .scan-records .ensures .1)
 
 returns-4 : tie.Need-returns-4
 returns-4 c =
-    images-next _ _ _ true true false (sym (c .before .before .before .before .before .before .before .before .buffers-check .ensures) ∙ c .before .before .before .before .before .before .enum-told .given .1) (not-false _ (c .before .before .before .before .before .if1 .left)) (passed (c .before .before .before .before .records-pass .ensures) (c .before .before .before .if2 .left)) (failed (c .before .spares-pass .ensures) (c .if3 .taken))
+    images-next _ _ _ true true false (sym (c .before .before .before .before .before .before .before .before .before .buffers-check .ensures) ∙ c .before .before .before .before .before .before .before .enum-told .given .1) (not-false _ (c .before .before .before .before .before .before .if1 .left)) (passed (c .before .before .before .before .before .scan-records .ensures .0) (c .before .before .before .if2 .left)) (failed (c .before .spares-pass .ensures) (c .if3 .taken))
 
 returns-5 : tie.Need-returns-5
 returns-5 c =
-    images-next _ _ _ true true true (sym (c .before .before .before .before .before .before .before .before .buffers-check .ensures) ∙ c .before .before .before .before .before .before .enum-told .given .1) (not-false _ (c .before .before .before .before .before .if1 .left)) (passed (c .before .before .before .before .records-pass .ensures) (c .before .before .before .if2 .left)) (passed (c .before .spares-pass .ensures) (c .if3 .left))
+    images-next _ _ _ true true true (sym (c .before .before .before .before .before .before .before .before .before .buffers-check .ensures) ∙ c .before .before .before .before .before .before .before .enum-told .given .1) (not-false _ (c .before .before .before .before .before .before .if1 .left)) (passed (c .before .before .before .before .before .scan-records .ensures .0) (c .before .before .before .if2 .left)) (passed (c .before .spares-pass .ensures) (c .if3 .left))
 
 pub images-check-spec : {M : Type 1} → statement M
 images-check-spec =
@@ -56,7 +56,7 @@ images-check-spec =
     returns
     enum-told
     returns-2
-    records-pass-requires
+    scan-records-requires
     returns-3
     collection-at-requires
     spares-pass-requires

@@ -1,0 +1,112 @@
+-- The numbers of all records, chip by chip: as many pages are found by their stamps on all chips but the lost one as the records
+-- have numbers there exactly where every named page of every such chip is rightly stamped.
+use Prim.Native.Nat.{ℕ, _+_, _-_, _≤_, _<_}
+use native.Mathlib.Numerals.{add-one}
+use native.Mathlib.Omega.{arith}
+use mathlib.Core.Path.{_≡_, refl, sym, _∙_}
+use mathlib.Core.Bool.{Bool, cond, _||_}
+use lib.Dec.{leb, eqb}
+use borrow.Author.Tests.{eq-eqb, le-leb, lt-leb}
+use Rattle.units.specs.Look.{allBelow, countBelow}
+use Rattle.units.proofs.Looks.{by-test, by-order, all-cong}
+use Rattle.layout.specs.Layout.{Layout, none, isNone, pages}
+use Rattle.layout.specs.Rotation.{parityChip, memberChip}
+use Rattle.layout.specs.Page.{Page}
+use Rattle.layout.specs.Record.{Record}
+use Rattle.layout.proofs.Limits.{Within}
+use Rattle.layout.proofs.Rotations.{parity-chip-fits}
+use Rattle.rules.specs.Sound.{taggedStripe}
+use Rattle.rules.proofs.Soundness.Statements.{RecordSound}
+use Rattle.rules.proofs.Stores.Names.{main-member, side-member, main-parity, side-parity}
+use Rattle.names.specs.Stamps.{stamped, hasMain, hasSide, namesBelow, hasCurrent, hasOld, recordNames, sumBelow, namesIn}
+use Rattle.names.proofs.Tallies.{ones}
+use Rattle.names.proofs.Sums.{sum-cong, sum-at, sum-same, sum-beyond, sum-swap, counts-sum, sum-gap, but, sum-but-none, sum-but}
+use Rattle.names.proofs.Stamping.{stamps-few, tags-counted}
+
+-- of the pages y of each chip but the lost one: those that are found by their stamps
+abbrev pub foundOn : (l : Layout) → (ℕ → Record) → (ℕ → ℕ → Page) → ℕ → ℕ → ℕ
+foundOn l r y lost c = cond (eqb c lost) 0 (countBelow (pages l) (stamped l r (y c) c))
+
+-- every page that a record names on chip c is rightly stamped, or the chip is lost
+abbrev pub taggedOrLost : (l : Layout) → (ℕ → Record) → (ℕ → ℕ → Page) → ℕ → ℕ → Bool
+taggedOrLost l r y lost c = eqb c lost || allBelow (l .S) (taggedStripe l r (y c) c)
+
+-- the numbers on all chips but the lost one
+abbrev pub namesKept : (l : Layout) → (ℕ → Record) → ℕ → ℕ
+namesKept l r lost = cond (leb lost (l .N)) (namesIn l r (l .S) - namesBelow l r lost (l .S)) (namesIn l r (l .S))
+
+-- how many numbers the record of stripe j has on chip c
+abbrev namesOn : (l : Layout) → (ℕ → Record) → ℕ → ℕ → ℕ
+namesOn l r j c = ones (hasMain l r c j) + ones (hasSide l r c j)
+
+-- how many of member m the record has
+abbrev namesOf : (l : Layout) → Record → ℕ → ℕ
+namesOf l r m = ones (hasCurrent l r m) + ones (hasOld l r m)
+
+-- the numbers of one chip are those of all stripes there
+chip-sum : (l : Layout) (r : ℕ → Record) (c n : ℕ) → namesBelow l r c n ≡ sumBelow n (λ j. namesOn l r j c)
+unfolding namesBelow
+chip-sum l r c n = counts-sum n (hasMain l r c) (hasSide l r c)
+
+module _ (l : Layout) (w : Within l) (r : ℕ → Record) where
+  open Layout l using (N, S)
+
+  -- the numbers on a member's chip are the member's
+  member-names : (j m : ℕ) → namesOn l r j (memberChip l j m) ≡ namesOf l (r j) m
+  member-names j m = rw (main-member l j m (r j), side-member l j m (r j))
+
+  -- and the one on the parity's chip is the parity's
+  parity-names : (j : ℕ) → namesOn l r j (parityChip l j) ≡ cond (isNone l (r j .parity)) 0 1
+  parity-names j =
+      rw (main-parity l j (r j), side-parity l j (r j), eq-eqb (none l) (none l) refl)
+      (by-test (isNone l (r j .parity)) (λ t. rw t) (λ t. rw t))
+
+  -- a sound record has no number of the members N and above
+  none-beyond : (j : ℕ) → RecordSound l (r j) → (m : ℕ) → N ≤ m → m < 6 → namesOf l (r j) m ≡ 0
+  none-beyond j f m h low =
+      let (cur, old) = f .member m low .beyond h in
+      rw (cur, old, eq-eqb (none l) (none l) refl)
+
+  -- so its numbers are those on all chips: the members' on their chips, and the parity's between them
+  record-sum : (j : ℕ) → RecordSound l (r j) → recordNames l (r j) ≡ sumBelow (N + 1) (namesOn l r j)
+  unfolding recordNames memberChip
+  record-sum j f =
+      let all = counts-sum 6 (hasCurrent l (r j)) (hasOld l (r j)) in
+      let few = sum-beyond N 6 (namesOf l (r j)) (w .members-high) (none-beyond j f) in
+      let gap = sum-gap N (parityChip l j) (namesOn l r j) (namesOf l (r j)) (omega (arith, parity-chip-fits l j)) (λ m _. member-names j m) in
+      rw add-one (omega (arith, parity-names j))
+
+  module _ (sound : (j : ℕ) → j < S → RecordSound l (r j)) where
+    -- all numbers, chip by chip
+    names-sum : namesIn l r S ≡ sumBelow (N + 1) (λ c. namesBelow l r c S)
+    names-sum =
+        sum-cong S (λ j. recordNames l (r j)) (λ j. sumBelow (N + 1) (namesOn l r j)) (λ j h. record-sum j (sound j h))
+        ∙ sum-swap S (N + 1) (namesOn l r)
+        ∙ sum-cong (N + 1) (λ c. sumBelow S (λ j. namesOn l r j c)) (λ c. namesBelow l r c S) (λ c _. sym (chip-sum l r c S))
+
+    -- one chip has no more numbers than all
+    pub names-le : (c : ℕ) → c ≤ N → namesBelow l r c S ≤ namesIn l r S
+    names-le c h = rw names-sum (sum-at (N + 1) (λ c. namesBelow l r c S) c (omega arith))
+
+    -- the numbers kept are those of all chips but the lost one
+    kept-sum : (lost : ℕ) → namesKept l r lost ≡ sumBelow (N + 1) (but lost (λ c. namesBelow l r c S))
+    kept-sum lost =
+        let names : ℕ → ℕ = λ c. namesBelow l r c S in
+        by-order N lost
+        (λ h. rw (lt-leb lost N h, names-sum) (sym (sum-but-none (N + 1) lost names (omega arith))))
+        (λ h. rw (le-leb lost N h, names-sum) (omega (arith, sum-but (N + 1) lost names (omega arith))))
+
+    -- on one chip: no more are found than there are, and as many where all are rightly stamped
+    found-le : (y : ℕ → ℕ → Page) (lost c : ℕ) → c < N + 1 → foundOn l r y lost c ≤ but lost (λ c. namesBelow l r c S) c
+    found-le y lost c h = by-test (eqb c lost) (λ t. rw t (omega arith)) (λ t. rw t (stamps-few l w r (y c) c h sound))
+
+    found-tags : (y : ℕ → ℕ → Page) (lost c : ℕ) → c < N + 1
+        → eqb (foundOn l r y lost c) (but lost (λ c. namesBelow l r c S) c) ≡ taggedOrLost l r y lost c
+    found-tags y lost c h = by-test (eqb c lost) (λ t. rw t) (λ t. rw t (tags-counted l w r (y c) c h sound))
+
+    -- and so on all of them
+    pub total-tags : (y : ℕ → ℕ → Page) (lost : ℕ) → eqb (sumBelow (N + 1) (foundOn l r y lost)) (namesKept l r lost) ≡ allBelow (N + 1) (taggedOrLost l r y lost)
+    total-tags y lost =
+        let kept = but lost (λ c. namesBelow l r c S) in
+        rw (kept-sum lost, sum-same (N + 1) (foundOn l r y lost) kept (found-le y lost))
+        (all-cong (N + 1) (λ c. eqb (foundOn l r y lost c) (kept c)) (taggedOrLost l r y lost) (found-tags y lost))
