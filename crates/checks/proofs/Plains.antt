@@ -1,5 +1,5 @@
 -- A record with nothing in the partial parity: its shorter tests are those of a record.
-use Prim.Native.Nat.{ℕ, zero, suc, _+_, _*_, _^_, _<_}
+use Prim.Native.Nat.{ℕ, _+_, _*_, _^_, _<_}
 use native.Mathlib.Omega.{arith}
 use mathlib.Core.Path.{_≡_, refl, sym}
 use mathlib.Core.Bool.{Bool, true, false, not, _&&_, _||_, and-true, and-false, Bool·not-not}
@@ -9,26 +9,14 @@ use lib.Dec.{ltb, eqb}
 use lib.Pow.{pow-pos}
 use borrow.Author.Tests.{lt-ltb, eq-eqb, eqb-true}
 use Rattle.units.specs.Look.{allBelow}
-use Rattle.units.proofs.Looks.{all-at, all-cong}
+use Rattle.units.proofs.Looks.{all-at, all-cong, all-both}
 use Rattle.layout.specs.declared.Geometry.{Geometry}
 use Rattle.layout.specs.Layout.{layoutOf, none}
 use Rattle.layout.proofs.Records.{bits-of-none}
 use Rattle.rules.specs.Sound.{memberSound, recordSound}
 use Rattle.codec.specs.declared.StripeRecord.{StripeRecord}
 use Rattle.codec.specs.Views.{recordFrom, sixOf, SmallRecord}
-use Rattle.names.proofs.Tallies.{same-tests}
-
--- two tests of every number, together or one after the other
-all-both : (n : ℕ) (f g : ℕ → Bool) → allBelow n (λ i. f i && g i) ≡ allBelow n f && allBelow n g
-unfolding allBelow
-all-both zero f g = refl
-all-both (suc n) f g = rw (all-both n f g) (swap (allBelow n f) (allBelow n g) (f n) (g n))
-  where
-    swap : (a b c d : Bool) → (a && b) && (c && d) ≡ (a && c) && (b && d)
-    swap true true c d = refl
-    swap true false true d = refl
-    swap true false false d = refl
-    swap false b c d = refl
+use Rattle.units.proofs.Tallies.{same-tests}
 
 -- number m of a list is none
 abbrev isNoneIn : List ℕ → ℕ → Bool

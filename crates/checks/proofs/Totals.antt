@@ -8,15 +8,15 @@ use mathlib.Core.List.{List}
 use lib.ListN.{getD}
 use lib.Dec.{eqb}
 use borrow.Author.Tests.{lt-ltb}
-use Rattle.units.specs.Look.{countBelow}
+use Rattle.units.specs.Look.{countBelow, sumBelow}
 use Rattle.units.proofs.Counts.{count-start, count-cong, count-le}
 use Rattle.layout.specs.declared.Geometry.{Geometry}
 use Rattle.layout.specs.Layout.{Layout, layoutOf, none}
 use Rattle.layout.specs.Record.{Record}
 use Rattle.codec.specs.declared.StripeRecord.{StripeRecord}
 use Rattle.codec.specs.Views.{recordFrom, sixOf}
-use Rattle.names.specs.Stamps.{hasCurrent, hasOld, recordNames, namesIn, sumBelow}
-use Rattle.names.proofs.Tallies.{ones, count-more}
+use Rattle.names.specs.Stamps.{hasCurrent, hasOld, recordNames, namesIn}
+use Rattle.units.proofs.Tallies.{ones, count-more}
 
 -- number m of a list is a page
 abbrev pub given : List ℕ → ℕ → Bool

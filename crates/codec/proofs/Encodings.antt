@@ -12,7 +12,7 @@ use Rattle.units.specs.Number.{number}
 use Rattle.units.specs.Units.{part, unit}
 use Rattle.units.proofs.Units.{part-unit, getD-unit}
 use Rattle.layout.specs.declared.Geometry.{Geometry}
-use Rattle.layout.specs.Layout.{layoutOf}
+use Rattle.layout.specs.Layout.{Layout, layoutOf}
 use Rattle.layout.specs.Record.{sixFrom, recordOf, recordAt}
 use Rattle.codec.specs.Views.{sixOf, recordFrom, sixAt}
 
@@ -85,3 +85,8 @@ record-in g xs j h =
     let slot = getD-unit 32 j 27 0 xs (omega arith) in
     let rest = part-unit 32 j 28 4 xs (omega arith) in
     rw (lt-ltb j (g .s) h, ← current, ← old, parity, bitmap, slot, rest, number-four (j * 32 + 28) xs, add-assoc (j * 32) 28 2, add-zero)
+
+-- number m of six
+pub six-in : (l : Layout) (xs : List ℕ) (m : ℕ) → m < 6 → sixOf l xs m ≡ getD xs m 0
+unfolding sixOf
+six-in l xs m h = rw (lt-ltb m 6 h)

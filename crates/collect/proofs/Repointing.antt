@@ -15,12 +15,8 @@ use Rattle.layout.specs.Layout.{Layout}
 use Rattle.layout.specs.Rotation.{parityChip, memberOn}
 use Rattle.rules.specs.Open.{moved, repointed}
 use Rattle.codec.specs.declared.StripeRecord.{StripeRecord}
+use Rattle.codec.proofs.Encodings.{six-in}
 use Rattle.codec.specs.Views.{sixOf, recordFrom, SmallRecord}
-
--- one of six numbers
-six-at : (l : Layout) (xs : List ℕ) (m : ℕ) → m < 6 → sixOf l xs m ≡ getD xs m 0
-unfolding sixOf
-six-at l xs m h = rw (lt-ltb m 6 h)
 
 -- six numbers with one replaced
 six-set : (l : Layout) (xs : List ℕ) (m v : ℕ) → length xs ≡ 6 → m < 6 → sixOf l (set xs m v) ≡ at m v (sixOf l xs)
@@ -78,8 +74,8 @@ module _ (l : Layout) (e : StripeRecord) (c j p q : ℕ) (small : SmallRecord e)
     rw (
       ne-eqb c (parityChip l j) there,
       ← on,
-      six-at l (e .current) m six,
-      six-at l (e .old) m six,
+      six-in l (e .current) m six,
+      six-in l (e .old) m six,
       six-set l (e .current) m v a six,
       six-set l (e .old) m w b six,
       is,

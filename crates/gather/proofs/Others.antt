@@ -17,14 +17,15 @@ use Rattle.rules.proofs.Soundness.Statements.{Numbered, RecordSound}
 use Rattle.codec.specs.declared.StripeRecord.{StripeRecord}
 use Rattle.codec.specs.Views.{sixOf, recordFrom}
 use Rattle.gather.specs.Numbers.{NumbersFit}
-use Rattle.gather.proofs.Pages.{six-in, six-beyond}
+use Rattle.codec.proofs.Encodings.{six-in}
+use Rattle.gather.proofs.Pages.{six-beyond}
 
 -- ---- numbers from the struct
 
 -- the current page of a member
 pub current-in : (g : Geometry) (e : StripeRecord) {r : Record} (m : ℕ) → recordFrom (layoutOf g) e ≡ r → m < 6 → r .current m ≡ getD (e .current) m 0
 unfolding recordFrom
-current-in g e m q h = rw (← q) (six-in g (e .current) m h)
+current-in g e m q h = rw (← q) (six-in (layoutOf g) (e .current) m h)
 
 module _ (g : Geometry) (e : StripeRecord) (m i : ℕ) where
   -- of the members in the bitmap
@@ -32,14 +33,14 @@ module _ (g : Geometry) (e : StripeRecord) (m i : ℕ) where
       → othersInside (layoutOf g) m (recordFrom (layoutOf g) e) i
       ≡ cond (eqb (e .bitmap / 2 ^ i % 2) 1 && not (eqb i m)) (getD (e .current) i 0) 65535
   unfolding othersInside recordFrom bit none
-  inside-at h = rw (six-in g (e .current) i h)
+  inside-at h = rw (six-in (layoutOf g) (e .current) i h)
 
   -- of those under the parity
   pub under-at : i < 6
       → othersUnderParity (layoutOf g) m (recordFrom (layoutOf g) e) i
       ≡ cond (eqb (e .bitmap / 2 ^ i % 2) 1) (getD (e .old) i 0) (cond (eqb i m) 65535 (getD (e .current) i 0))
   unfolding othersUnderParity recordFrom bit none
-  under-at h = rw (six-in g (e .current) i h, six-in g (e .old) i h)
+  under-at h = rw (six-in (layoutOf g) (e .current) i h, six-in (layoutOf g) (e .old) i h)
 
   -- beyond the six members there is none
   pub inside-beyond : 6 ≤ i → othersInside (layoutOf g) m (recordFrom (layoutOf g) e) i ≡ 65535

@@ -8,7 +8,7 @@ use mathlib.Core.Logic.{_≢_}
 use mathlib.Core.List.{List, _++_}
 use lib.ListN.{length, getD, set, take, drop, replicate, length-append, length-set, length-replicate, getD-replicate}
 use lib.Seq.{getD-set-same, getD-set-other, take-at}
-use borrow.Author.Tests.{eq-eqb, ne-eqb, lt-ltb, le-ltb}
+use borrow.Author.Tests.{eq-eqb, ne-eqb, le-ltb}
 use Rattle.units.specs.Look.{countBelow}
 use Rattle.units.specs.Units.{part}
 use Rattle.units.specs.Xor.{_⊕_, xorBelow}
@@ -23,16 +23,12 @@ use Rattle.layout.specs.Page.{pageAt}
 use Rattle.rules.specs.Gather.{bytesAt, memberBytes, isPage, gathered, gatheredReads}
 use Rattle.rules.specs.Read.{Fetched}
 use Rattle.codec.specs.Views.{sixOf}
+use Rattle.codec.proofs.Encodings.{six-in}
 
 -- ---- six numbers
 
 module _ (g : Geometry) (xs : List ℕ) (m : ℕ) where
-  -- number m of the six
-  pub six-in : m < 6 → sixOf (layoutOf g) xs m ≡ getD xs m 0
-  unfolding sixOf
-  six-in h = rw (lt-ltb m 6 h)
-
-  -- and none beyond them
+  -- beyond six numbers there is none
   pub six-beyond : 6 ≤ m → sixOf (layoutOf g) xs m ≡ 65535
   unfolding sixOf none
   six-beyond h = rw (le-ltb m 6 h)
@@ -73,7 +69,7 @@ module _ {f : ℕ → ℕ} {i : ℕ} {xs : List ℕ} (s : Filled f i xs) where
   -- all six
   pub filled-all : 6 ≤ i → (g : Geometry) → ((k : ℕ) → 6 ≤ k → f k ≡ 65535) → sixOf (layoutOf g) xs ≡ f
   filled-all h g none-beyond = fun-ext λ k. by-order k 6
-      (λ low. rw (six-in g xs k low) (s .so-far k (omega arith)))
+      (λ low. rw (six-in (layoutOf g) xs k low) (s .so-far k (omega arith)))
       (λ high. rw (six-beyond g xs k high, none-beyond k high))
 
 -- ---- XOR over the members
@@ -112,7 +108,7 @@ module _ {g : Geometry} {chips : List ℕ} {j : ℕ} {numbers work₀ : List ℕ
         → Gathered g chips j numbers work₀ (m + 1) (work ⊕ page) (reads + 1)
     unfolding xorBelow countBelow bytesAt none
     gathered-more d page w e =
-        let at = six-in g numbers m (omega arith) in
+        let at = six-in (layoutOf g) numbers m (omega arith) in
         record {
           few = s .few;
           within = omega arith;
@@ -125,7 +121,7 @@ module _ {g : Geometry} {chips : List ℕ} {j : ℕ} {numbers work₀ : List ℕ
     pub gathered-skip : getD numbers m 0 ≡ 65535 → Gathered g chips j numbers work₀ (m + 1) work reads
     unfolding xorBelow countBelow bytesAt none
     gathered-skip d =
-        let at = six-in g numbers m (omega arith) in
+        let at = six-in (layoutOf g) numbers m (omega arith) in
         record {
           few = s .few;
           within = omega arith;

@@ -22,7 +22,7 @@ use Rattle.rules.specs.Names.{mainNumber, sideNumber, kindOn, memberTag, names}
 use Rattle.names.specs.declared.Stamp.{Stamp}
 use Rattle.names.specs.declared.StripePages.{StripePages}
 use Rattle.names.specs.Stamps.{stampOf, pagesOn, stamped, hasMain, hasSide, namesBelow}
-use Rattle.names.proofs.Tallies.{ones, count-more}
+use Rattle.units.proofs.Tallies.{ones, count-more}
 
 module _ (g : Geometry) (xs : List ℕ) (j : ℕ) (stripe : j < g .s) where
   -- the numbers of record j at their offsets: the current pages, the old ones, the parity page

@@ -23,7 +23,7 @@ use Rattle.rules.specs.Sound.{taggedPage, taggedNumber, taggedStripe}
 use Rattle.rules.proofs.Soundness.Statements.{Numbered, RecordSound, sound-member}
 use Rattle.rules.proofs.Stores.Names.{by-chip, by-name, main-member, side-member, main-parity, side-parity, named-by, name-named}
 use Rattle.names.specs.Stamps.{stamped, namesBelow}
-use Rattle.names.proofs.Tallies.{same-tests, ones, count-more, count-or, count-at, count-full}
+use Rattle.units.proofs.Tallies.{same-tests, ones, count-more, count-or, count-at, count-full}
 
 -- what is none or tagged is tagged where it is not none
 or-found : (a b : Bool) → a || b ≡ true → not a && b ≡ not a

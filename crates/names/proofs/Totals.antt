@@ -7,7 +7,7 @@ use mathlib.Core.Path.{_≡_, refl, sym, _∙_}
 use mathlib.Core.Bool.{Bool, cond, _||_}
 use lib.Dec.{leb, eqb}
 use borrow.Author.Tests.{eq-eqb, le-leb, lt-leb}
-use Rattle.units.specs.Look.{allBelow, countBelow}
+use Rattle.units.specs.Look.{allBelow, countBelow, sumBelow}
 use Rattle.units.proofs.Looks.{by-test, by-order, all-cong}
 use Rattle.layout.specs.Layout.{Layout, none, isNone, pages}
 use Rattle.layout.specs.Rotation.{parityChip, memberChip}
@@ -18,9 +18,9 @@ use Rattle.layout.proofs.Rotations.{parity-chip-fits}
 use Rattle.rules.specs.Sound.{taggedStripe}
 use Rattle.rules.proofs.Soundness.Statements.{RecordSound}
 use Rattle.rules.proofs.Stores.Names.{main-member, side-member, main-parity, side-parity}
-use Rattle.names.specs.Stamps.{stamped, hasMain, hasSide, namesBelow, hasCurrent, hasOld, recordNames, sumBelow, namesIn}
-use Rattle.names.proofs.Tallies.{ones}
-use Rattle.names.proofs.Sums.{sum-cong, sum-at, sum-same, sum-beyond, sum-swap, counts-sum, sum-gap, but, sum-but-none, sum-but}
+use Rattle.names.specs.Stamps.{stamped, hasMain, hasSide, namesBelow, hasCurrent, hasOld, recordNames, namesIn}
+use Rattle.units.proofs.Tallies.{ones}
+use Rattle.units.proofs.Sums.{sum-cong, sum-at, sum-same, sum-beyond, sum-swap, counts-sum, sum-gap, but, sum-but-none, sum-but}
 use Rattle.names.proofs.Stamping.{stamps-few, tags-counted}
 
 -- of the pages y of each chip but the lost one: those that are found by their stamps

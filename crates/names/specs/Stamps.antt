@@ -1,10 +1,10 @@
 -- Whether a record names a page, found from the page's own spare bytes: only the record of the stripe that they give is looked at.
-use Prim.Native.Nat.{ℕ, zero, suc, _+_, _≤_}
+use Prim.Native.Nat.{ℕ, _+_, _≤_}
 use mathlib.Core.Path.{_≡_}
 use mathlib.Core.Bool.{Bool, true, not, cond, _&&_}
 use mathlib.Core.List.{List}
 use lib.Dec.{ltb}
-use Rattle.units.specs.Look.{allBelow, countBelow}
+use Rattle.units.specs.Look.{allBelow, countBelow, sumBelow}
 use Rattle.layout.specs.declared.Geometry.{Geometry}
 use Rattle.layout.specs.Layout.{Layout, isNone, layoutOf}
 use Rattle.layout.specs.Page.{Page, pageAt}
@@ -60,17 +60,9 @@ module _ (l : Layout) where
   unfoldable pub recordNames : Record → ℕ
   recordNames r = countBelow 6 (hasCurrent r) + countBelow 6 (hasOld r) + cond (isNone l (r .parity)) 0 1
 
--- the sum of f 0, f 1, .. below n
-unfoldable pub sumBelow : ℕ → (ℕ → ℕ) → ℕ
-sumBelow zero f = 0
-sumBelow (suc n) f = sumBelow n f + f n
-
-module _ (l : Layout) where
-  open Layout l using (S)
-
   -- how many page numbers the records below n have
   abbrev pub namesIn : (ℕ → Record) → ℕ → ℕ
-  namesIn r n = sumBelow n (λ j. recordNames l (r j))
+  namesIn r n = sumBelow n (λ j. recordNames (r j))
 
 -- each page that a record names on chip c has its stamp
 pub record TagsPass (g : Geometry) (chips records : List ℕ) (c : ℕ) : Type 0 where

@@ -8,8 +8,8 @@ use mathlib.Core.Bool.{Bool, true, false, not, cond, _&&_, _||_, and-true, and-f
 use mathlib.Core.List.{List}
 use lib.Dec.{eqb}
 use borrow.Author.Tests.{eq-eqb, ne-eqb}
-use Rattle.units.specs.Look.{allBelow, someBelow, countBelow}
-use Rattle.units.proofs.Looks.{both, by-same, all-true, all-at, all-cong}
+use Rattle.units.specs.Look.{allBelow, someBelow, countBelow, sumBelow}
+use Rattle.units.proofs.Looks.{both, by-same, all-true, all-at, all-cong, all-both}
 use Rattle.units.proofs.Counts.{count-le}
 use Rattle.units.proofs.Tests.{or-else}
 use Rattle.layout.specs.declared.Geometry.{Geometry}
@@ -25,25 +25,13 @@ use Rattle.rules.proofs.Soundness.RecordChecks.{records-sound}
 use Rattle.codec.specs.declared.CollectionRecord.{CollectionRecord}
 use Rattle.codec.specs.Fit.{ChipsFit}
 use Rattle.codec.specs.Views.{CollectionIs}
-use Rattle.names.specs.Stamps.{stamped, sumBelow, TagsPass}
-use Rattle.names.proofs.Tallies.{same-tests}
+use Rattle.names.specs.Stamps.{stamped, TagsPass}
+use Rattle.units.proofs.Tallies.{same-tests}
 use Rattle.spares.specs.declared.Scan.{Scan}
 use Rattle.spares.specs.Scans.{chipScan, phaseSound, RecordsPass}
 use Rattle.names.proofs.Totals.{foundOn, taggedOrLost, namesKept, total-tags}
 
 -- ---- tests
-
--- all numbers pass both tests exactly where all pass each
-all-both : (n : ℕ) (f g : ℕ → Bool) → allBelow n (λ i. f i && g i) ≡ allBelow n f && allBelow n g
-unfolding allBelow
-all-both zero f g = refl
-all-both (suc n) f g = rw (all-both n f g) (swap (allBelow n f) (allBelow n g) (f n) (g n))
-  where
-    swap : (a b c d : Bool) → (a && b) && (c && d) ≡ (a && c) && (b && d)
-    swap true true c d = refl
-    swap true false true d = refl
-    swap true false false d = refl
-    swap false b c d = refl
 
 -- the test of one chip in three: lost or not, tags, order, clean block, phase 1, phase 2, the collection's chip, and what the phases ask
 split : (lost t o k e f h p q : Bool)

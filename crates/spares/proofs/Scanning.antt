@@ -1,6 +1,6 @@
 -- Page numbers that fit, what the loops over a block and over a chip have found so far, and the test of a twin.
 use Prim.Native.Nat.{ℕ, zero, suc, _+_, _-_, _*_, _≤_, _<_}
-use native.Mathlib.Nat.{add-zero, add-suc, suc-mul, zero-mul, mul-le-mul-right, le-refl}
+use native.Mathlib.Nat.{suc-mul, zero-mul, mul-le-mul-right, le-refl}
 use native.Mathlib.Numerals.{add-one}
 use native.Mathlib.Omega.{arith}
 use mathlib.Core.Path.{_≡_, refl, sym}
@@ -20,7 +20,7 @@ use Rattle.rules.specs.Sound.{twin}
 use Rattle.codec.specs.declared.Spare.{Spare}
 use Rattle.codec.specs.Views.{spareOf}
 use Rattle.names.specs.Stamps.{stamped}
-use Rattle.names.proofs.Tallies.{ones, count-more}
+use Rattle.units.proofs.Tallies.{ones, count-more, count-from}
 use Rattle.spares.specs.declared.Scan.{Scan}
 use Rattle.spares.specs.Scans.{stampedIn, blockScan, chipScan}
 
@@ -42,11 +42,6 @@ module _ (g : Geometry) (limited : limits (layoutOf g) ≡ true) where
       let low = page-in-fits (layoutOf g) b i block place in (low, omega (arith, start-low (g .b) (le-refl (g .b))))
 
 -- ---- counts
-
--- the count below a + n is that below a with that of the n numbers from a on
-count-from : (a n : ℕ) (f : ℕ → Bool) → countBelow (a + n) f ≡ countBelow a f + countBelow n (λ i. f (a + i))
-count-from a zero f = rw add-zero (omega (arith, count-start (λ i. f (a + i))))
-count-from a (suc n) f = rw add-suc (omega (arith, count-from a n f, count-more (a + n) f, count-more n (λ i. f (a + i))))
 
 -- ---- block b of a chip, with its pages x
 

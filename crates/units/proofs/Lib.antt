@@ -1,7 +1,9 @@
-pub mod Units
-pub mod Numbers
-pub mod Looks
 pub mod Counts
-pub mod Xors
-pub mod Updates
+pub mod Looks
+pub mod Numbers
+pub mod Sums
+pub mod Tallies
 pub mod Tests
+pub mod Units
+pub mod Updates
+pub mod Xors

@@ -5,7 +5,7 @@ use native.Mathlib.Omega.{arith}
 use native.Mathlib.Decide.{decLt, ℕ-discrete}
 use mathlib.Core.Path.{_≡_, refl, sym, ap, _∙_}
 use mathlib.Core.Logic.{_≢_}
-use mathlib.Core.Bool.{Bool, true, false, true≢false, and-eq-true-iff, and-true, or-true, or-false}
+use mathlib.Core.Bool.{Bool, true, false, true≢false, and-eq-true-iff, and-true, or-true, or-false, _&&_}
 use borrow.Author.Tests.{lt-ltb, le-ltb}
 use Rattle.units.specs.declared.Found.{Found}
 use Rattle.units.specs.declared.Found.the-variants.{At, Nothing}
@@ -67,6 +67,18 @@ pub all-cong : (n : ℕ) (f g : ℕ → Bool) → ((i : ℕ) → i < n → f i �
 unfolding allBelow
 all-cong zero f g h = refl
 all-cong (suc n) f g h = rw (all-cong n f g (λ i b. h i (le-step b)), h n (lt-suc-self n))
+
+-- all numbers pass both tests exactly where all pass each
+pub all-both : (n : ℕ) (f g : ℕ → Bool) → allBelow n (λ i. f i && g i) ≡ allBelow n f && allBelow n g
+unfolding allBelow
+all-both zero f g = refl
+all-both (suc n) f g = rw (all-both n f g) (swap (allBelow n f) (allBelow n g) (f n) (g n))
+  where
+    swap : (a b c d : Bool) → (a && b) && (c && d) ≡ (a && c) && (b && d)
+    swap true true c d = refl
+    swap true false true d = refl
+    swap true false false d = refl
+    swap false b c d = refl
 
 -- some
 pub some-true : (n : ℕ) (f : ℕ → Bool) (i : ℕ) → i < n → f i ≡ true → someBelow n f ≡ true

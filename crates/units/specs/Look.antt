@@ -1,6 +1,6 @@
 -- The ways to look through the numbers below a bound. Every check and every choice of document 01 is one of these.
 -- Each recursion takes the last number at its end, as an ascending loop does.
-use Prim.Native.Nat.{ℕ, zero, suc}
+use Prim.Native.Nat.{ℕ, zero, suc, _+_}
 use mathlib.Core.Bool.{Bool, true, false, cond, _&&_, _||_}
 use lib.Dec.{ltb}
 use Rattle.units.specs.declared.Found.{Found}
@@ -45,3 +45,8 @@ better measure Nothing n = At n
 unfoldable pub leastBelow : ℕ → (ℕ → Bool) → (ℕ → ℕ) → Found
 leastBelow zero f measure = Nothing
 leastBelow (suc n) f measure = cond (f n) (better measure (leastBelow n f measure) n) (leastBelow n f measure)
+
+-- the sum of f 0, f 1, .. below n
+unfoldable pub sumBelow : ℕ → (ℕ → ℕ) → ℕ
+sumBelow zero f = 0
+sumBelow (suc n) f = sumBelow n f + f n

@@ -6,7 +6,7 @@ use mathlib.Core.Logic.{⊎-elim}
 use lib.ListN.{getD}
 use borrow.Author.Needs.{needs}
 use borrow.Author.Tests.{eq-eqb, ne-eqb}
-use Rattle.names.proofs.Tallies.{ones}
+use Rattle.units.proofs.Tallies.{ones}
 use Rattle.checks.proofs.Totals.{given, namesTo, names-none, names-member, names-most, names-all}
 use Rattle.checks.proofs.names_of.Statement.{statement}
 use Rattle.checks.proofs.names_of.Tie as tie

@@ -5,7 +5,8 @@ use mathlib.Core.Logic.{⊎-elim}
 use borrow.Author.Needs.{needs}
 use Rattle.layout.specs.Layout.{layoutOf, none}
 use Rattle.layout.proofs.Limits.{within}
-use Rattle.gather.proofs.Pages.{Gathered, six-in, gathered-none, gathered-few, gathered-more, gathered-skip, gathered-all}
+use Rattle.codec.proofs.Encodings.{six-in}
+use Rattle.gather.proofs.Pages.{Gathered, gathered-none, gathered-few, gathered-more, gathered-skip, gathered-all}
 use Rattle.gather.proofs.gather.Statement.{statement}
 use Rattle.gather.proofs.gather.Tie as tie
 
@@ -37,7 +38,7 @@ page-data-requires c κs =
     let start = c .before .before .before .before .before .before .before in
     let a = start .args in
     let m = c .before .before .before .before .loop .m in
-    let at = six-in (a .g) (a .t5) m (omega arith) in (
+    let at = six-in (layoutOf (a .g)) (a .t5) m (omega arith) in (
       start .pre .0,
       c .member-chip .ensures .1,
       rw at at (start .pre .2 .fits m (omega arith) (rw at (c .before .before .if1 .taken))),

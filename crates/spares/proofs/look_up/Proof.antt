@@ -7,7 +7,7 @@ use Rattle.layout.specs.Layout.{layoutOf}
 use Rattle.layout.specs.Page.{Page}
 use Rattle.layout.specs.Record.{recordAt}
 use Rattle.layout.proofs.Limits.{within}
-use Rattle.names.proofs.Tallies.{ones}
+use Rattle.units.proofs.Tallies.{ones}
 use Rattle.spares.specs.Scans.{stampedIn, Fetched}
 use Rattle.spares.proofs.Fetching.{stamp-is}
 use Rattle.spares.proofs.Scanning.{OnChip, start-low, place-low, Scanned, scan-start, scan-more, scan-all}

@@ -11,7 +11,7 @@ use Rattle.layout.specs.Layout.{layoutOf, pageIn}
 use Rattle.layout.specs.Page.{pageAt}
 use Rattle.layout.specs.Record.{recordAt}
 use Rattle.rules.specs.Sound.{twinIn}
-use Rattle.names.proofs.Tallies.{ones, count-more}
+use Rattle.units.proofs.Tallies.{ones, count-more}
 use Rattle.spares.proofs.Scanning.{OnChip, start-low, place-low, twin-test}
 use Rattle.spares.proofs.twins.Statement.{statement}
 use Rattle.spares.proofs.twins.Tie as tie

@@ -1,14 +1,14 @@
 -- Laws of counts: of two tests together, of one number alone, and of a test that another one implies.
 use Prim.Native.Nat.{ℕ, zero, suc, _+_, _≤_, _<_}
-use native.Mathlib.Nat.{le-step, lt-suc-self}
+use native.Mathlib.Nat.{le-step, lt-suc-self, add-zero, add-suc}
 use native.Mathlib.Omega.{arith}
 use mathlib.Core.Path.{_≡_, refl, sym}
 use mathlib.Core.Bool.{Bool, true, false, not, cond, _&&_, _||_, and-true, and-false}
 use lib.Dec.{eqb}
 use borrow.Author.Tests.{eq-eqb, eqb-true}
 use Rattle.units.specs.Look.{countBelow}
 use Rattle.units.proofs.Looks.{by-test}
 use Rattle.units.proofs.Counts.{count-start, count-pass, count-fail, count-zero, count-positive, one-count}
 
 -- two tests of which each implies the other are the same
 pub same-tests : (a b : Bool) → (a ≡ true → b ≡ true) → (b ≡ true → a ≡ true) → a ≡ b
@@ -55,3 +55,8 @@ count-full n f g h few i low t =
     split : (a b : Bool) → (a ≡ true → b ≡ true) → b ≡ a || (b && not a)
     split true b k = k refl
     split false b k = sym (and-true b)
+
+-- the count below a + n is that below a with that of the n numbers from a on
+pub count-from : (a n : ℕ) (f : ℕ → Bool) → countBelow (a + n) f ≡ countBelow a f + countBelow n (λ i. f (a + i))
+count-from a zero f = rw add-zero (omega (arith, count-start (λ i. f (a + i))))
+count-from a (suc n) f = rw add-suc (omega (arith, count-from a n f, count-more (a + n) f, count-more n (λ i. f (a + i))))

@@ -8,11 +8,10 @@ use mathlib.Core.Bool.{Bool, cond}
 use lib.Dec.{eqb, ltb}
 use lib.Arith.{le-zero}
 use borrow.Author.Tests.{eq-eqb, ne-eqb, eqb-true, lt-ltb, le-ltb}
-use Rattle.units.specs.Look.{allBelow, countBelow}
+use Rattle.units.specs.Look.{allBelow, countBelow, sumBelow}
 use Rattle.units.proofs.Looks.{at-last, all-at, all-true}
 use Rattle.units.proofs.Counts.{count-start}
-use Rattle.names.specs.Stamps.{sumBelow}
-use Rattle.names.proofs.Tallies.{same-tests, ones, count-more}
+use Rattle.units.proofs.Tallies.{same-tests, ones, count-more}
 
 -- the sum of none, and of one number more
 pub sum-start : (f : ℕ → ℕ) → sumBelow 0 f ≡ 0
