@@ -7,8 +7,11 @@
  *   slots    m + 1 pages of w bytes
  *
  * Every number and every byte may be anything: a call that cannot be made is refused, with counts of zero and nothing
- * changed. What a caller must keep: each pointer has as many bytes behind it as its length says, and no two buffers of one
- * call overlap.
+ * changed. What a caller must keep: each pointer has as many bytes behind it as its length says and is not null, also where the
+ * length is 0, and no two buffers of one call overlap.
+ *
+ * A call that stores carries an allowance: it makes no more stores than that, and answers VAZHETTU_CUT exactly where more
+ * were due. What it has stored then stands whole, and vazhettu_open goes on from there.
  */
 #ifndef VAZHETTU_H
 #define VAZHETTU_H
@@ -37,6 +40,7 @@ struct vazhettu_report {
     uint64_t stores;   /* stores made, of whatever kind */
 };
 
+/* 6, 9 and 10 are answers of calls that write; format, open and read do not give them. */
 enum {
     VAZHETTU_DONE = 0,
     VAZHETTU_BAD_GEOMETRY = 1,
@@ -56,8 +60,8 @@ enum {
 #define VAZHETTU_NO_CHIP 255
 
 /*
- * Makes the buffers an empty store: erases every block, stores every record empty. The slots stay as they are.
- * Makes no more stores than the allowance; VAZHETTU_CUT exactly where more were due.
+ * Makes the buffers an empty store: erases every block, stores every record empty. The slots stay as they are. A format that was
+ * cut is to be made again.
  */
 struct vazhettu_report vazhettu_format(struct vazhettu_geometry g, uint8_t *chips, size_t chips_len, uint8_t *records,
                                        size_t records_len, const uint8_t *slots, size_t slots_len, uint64_t allowance);

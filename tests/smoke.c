@@ -41,7 +41,6 @@ static void test_reads(struct vazhettu_geometry g) {
 
 static void test_damage(struct vazhettu_geometry g) {
     chips[16] = 68;
-    memcpy(before, chips, sizeof chips);
     expect(read_page(g, VAZHETTU_NO_CHIP, 0).status == VAZHETTU_DONE, "a used page that no record names is sound");
     chips[16] = 255;
     chips[24 + 16] = 68;

@@ -1,4 +1,4 @@
--- What a call that stores relies on: rows 1, 2, 4 and 5 of the table have passed, with no chip lost.
+-- What a call that stores relies on of chips and records: their rows of the table have passed, with no chip lost.
 use mathlib.Core.Path.{_≡_}
 use mathlib.Core.Bool.{true}
 use mathlib.Core.List.{List}

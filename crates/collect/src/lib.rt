@@ -119,6 +119,7 @@ fn move_all(
     let mut run = p;
     let mut i = 0;
     while i < k {
+        // past a cut the images are no longer those that the list was worked out for
         if run.cut {
             return run;
         }

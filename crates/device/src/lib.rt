@@ -13,19 +13,20 @@ use slices::fill;
 use stores::Counts;
 use stores::Progress;
 ghost use mathlib.Core.Path.{_≡_};
-ghost use mathlib.Core.Bool.{Bool, true, false};
+ghost use mathlib.Core.Bool.{true};
 ghost use mathlib.Core.List.{List, [], _∷_};
-ghost use Prim.Native.Nat.{ℕ, _+_, _-_, _*_, _^_, _≤_, _<_, min};
+ghost use Prim.Native.Nat.{ℕ, _+_, _-_, _^_, _≤_, _<_, min};
 ghost use lib.ListN.{length};
 ghost use Rattle.layout.specs.Layout.{layoutOf, pages};
 ghost use Rattle.layout.specs.Record.{emptyRecord};
 ghost use Rattle.stores.specs.Store.{program as programStore, erase as eraseStore, slot as slotStore, stripe, collection, recorded};
-ghost use Rattle.stores.specs.Steps.{plain, noCounts};
+ghost use Rattle.stores.specs.Steps.{plain};
 ghost use Rattle.codec.specs.Fit.{ChipsFit, RecordsFit, SlotsFit};
 ghost use Rattle.codec.specs.Views.{recordFrom, collectionFrom, pageFrom, SmallRecord, SmallSpare};
-ghost use Rattle.stores.specs.Allowance.{started, after, Sane, Ran, images};
+ghost use Rattle.stores.specs.Allowance.{started, Sane, Ran, images};
 
-// At the beginning of a call. No list is as long as 2^59 stores, so a larger allowance is as good as that.
+// At the beginning of a call. No list is as long as 2^59 stores, so a larger allowance is as good as that, and eight reads for each
+// of them still fit a counter.
 pub fn start(allowance: u64) -> Progress
     ensures { λ r. ⌜ (r ≡ started (min allowance (2 ^ 59))) × Sane r ⌝ }
 {

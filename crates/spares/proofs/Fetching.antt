@@ -17,7 +17,7 @@ use Rattle.layout.proofs.Pages.{page-in-fits}
 use Rattle.codec.specs.Fit.{ChipsFit}
 use Rattle.codec.proofs.Offsets.{offset, page-high, page-within, page-in}
 use Rattle.names.specs.Stamps.{stampOf}
-use Rattle.spares.specs.Scans.{StampIs, Fetched}
+use Rattle.spares.specs.Scans.{StampIs, StampsOf}
 
 -- v is the stamp at offset a
 abbrev pub StampAt : List ℕ → ℕ → ℕ → Type 0
@@ -61,7 +61,7 @@ module _ (g : Geometry) (chips : List ℕ) (fit : ChipsFit g chips) (c b : ℕ) 
 
   -- all stamps from the first spare of the block on are those of its pages
   pub fetch-all : {stamps : List ℕ} {i : ℕ} → FetchedTo chips (offset g c (b * g .k) + g .w) (g .w + 8) stamps i → i ≡ g .k
-      → Fetched (layoutOf g) (pageAt (layoutOf g) chips c) b stamps
+      → StampsOf (layoutOf g) (pageAt (layoutOf g) chips c) b stamps
   fetch-all h e = record {
     is = λ i place.
         let q = page-in g chips c (b * g .k + i) (page-in-fits (layoutOf g) b i block place) in

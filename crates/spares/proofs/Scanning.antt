@@ -41,8 +41,6 @@ module _ (g : Geometry) (limited : limits (layoutOf g) ≡ true) where
   place-low b i block place =
       let low = page-in-fits (layoutOf g) b i block place in (low, omega (arith, start-low (g .b) (le-refl (g .b))))
 
--- ---- counts
-
 -- ---- block b of a chip, with its pages x
 
 module _ (l : Layout) (x : ℕ → Page) (b : ℕ) where

@@ -35,7 +35,7 @@ module _ (l : Layout) where
   stampedIn r x c b i = stamped l r x c (pageIn l b i)
 
   -- the stamps of the pages of block b
-  pub record Fetched (x : ℕ → Page) (b : ℕ) (stamps : List ℕ) : Type 0 where
+  pub record StampsOf (x : ℕ → Page) (b : ℕ) (stamps : List ℕ) : Type 0 where
     pub is : (i : ℕ) → i < K → StampIs (getD stamps i 0) (x (pageIn l b i) .kind) (x (pageIn l b i) .member) (x (pageIn l b i) .stripe)
     pub small : Small K stamps
 

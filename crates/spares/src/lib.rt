@@ -24,7 +24,7 @@ ghost use Rattle.rules.specs.Sound.{phase1Sound, twinIn, phase2Sound, sparesSou
 ghost use Rattle.codec.specs.Fit.{ChipsFit, RecordsFit};
 ghost use Rattle.codec.specs.Views.{CollectionIs};
 ghost use Rattle.names.specs.Stamps.{namesIn, TagsPass};
-ghost use Rattle.spares.specs.Scans.{StampIs, Small, Fetched, blockScan, chipScan, phaseSound, RecordsPass};
+ghost use Rattle.spares.specs.Scans.{StampIs, Small, StampsOf, blockScan, chipScan, phaseSound, RecordsPass};
 
 // What a pass over the spares of a block or of a chip brings.
 pub struct Scan {
@@ -48,7 +48,7 @@ fn stamp_at(chips: &[u8], a: usize) -> u32
 // waits for the one before it.
 fn fetch_stamps(chips: &[u8], g: Geometry, c: usize, b: usize, stamps: &mut [u32; 128])
     requires { ⌜ ChipsFit g (now chips) × (c ≤ g .n) × (b < g .b) × (length (now stamps) ≡ 128) ⌝ }
-    ensures { λ _. ⌜ Fetched (layoutOf g) (pageAt (layoutOf g) (now (chips .entry)) c) b (now (stamps .exit)) ⌝ }
+    ensures { λ _. ⌜ StampsOf (layoutOf g) (pageAt (layoutOf g) (now (chips .entry)) c) b (now (stamps .exit)) ⌝ }
 {
     let k = g.k as usize;
     let w = g.w as usize;
@@ -63,7 +63,7 @@ fn fetch_stamps(chips: &[u8], g: Geometry, c: usize, b: usize, stamps: &mut [u32
 // What the stamps of block b of chip c say, each looked up in the record of its stripe.
 fn look_up(records: &[u8], g: Geometry, c: usize, b: usize, stamps: &[u32; 128]) -> Scan
     requires { ⌜ RecordsFit g (now records) × (c ≤ g .n) × (b < g .b) × Small (g .k) (now stamps) ⌝ }
-    ensures { λ r. ⌜ ((x : ℕ → Page) → Fetched (layoutOf g) x b (now (stamps .entry))
+    ensures { λ r. ⌜ ((x : ℕ → Page) → StampsOf (layoutOf g) x b (now (stamps .entry))
         → r ≡ blockScan (layoutOf g) (recordAt (layoutOf g) (now (records .entry))) x c b) ⌝ }
 {
     let k = g.k as usize;

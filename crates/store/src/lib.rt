@@ -17,11 +17,8 @@ use spares::spares_pass;
 use stores::Counts;
 use stores::Progress;
 ghost use mathlib.Core.Path.{_≡_};
-ghost use mathlib.Core.Bool.{Bool, true, cond};
-ghost use mathlib.Core.List.{List};
-ghost use Prim.Native.Nat.{ℕ, _+_, _≤_, _<_};
+ghost use mathlib.Core.Bool.{cond};
 ghost use Rattle.layout.specs.Layout.{layoutOf};
-ghost use Rattle.layout.specs.Images.{Images};
 ghost use Rattle.rules.specs.declared.Check.the-variants.{Passed};
 ghost use Rattle.rules.specs.declared.Answer.the-variants.{Cut, Done};
 ghost use Rattle.rules.specs.Refusals.{buffersCheck, imagesCheck};
@@ -95,7 +92,7 @@ pub fn format(
     }
 }
 
-// Finishes what a cut left undone.
+// Finishes a collection that a cut left under way.
 pub fn open(
     g: Geometry,
     chips: &mut [u8],

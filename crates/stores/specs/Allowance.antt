@@ -26,7 +26,8 @@ after p xs =
 unfoldable pub applied : Layout → Progress → List Step → Images → Images
 applied l p xs s = applyAll l (made (p .left) xs) s
 
--- No counter overflows: a store takes one of what is left, and counts at most eight reads. What is cut has nothing left.
+-- No counter overflows a word of 64 bits: a store takes one of what is left, and counts at most eight reads (parity, six members, and one to
+-- spare). What is cut has nothing left.
 pub record Sane (p : Progress) : Type 0 where
   pub reads : p .counts .reads + 8 * p .left < 2 ^ 63
   pub programs : p .counts .programs + p .left < 2 ^ 63
@@ -40,5 +41,6 @@ pub record Ran (l : Layout) (p : Progress) (xs : List Step) (r : Progress) (s t 
   pub images : t ≡ applied l p xs s
   pub sane : Sane r
 
+-- three lent images, as one
 abbrev pub images : List ℕ → List ℕ → List ℕ → Images
 images chips records slots = record { chips = chips; records = records; slots = slots }

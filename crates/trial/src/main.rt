@@ -114,17 +114,7 @@ fn read(chips: &[u8], records: &[u8], slots: &[u8], lost: u64, page: u64) {
     say(b"read");
     say_number(lost);
     say_number(page);
-    let answer = store::read(bench(), chips, records, slots, lost, page, &mut buffer);
-    match answer {
-        Reading::Done(c) => {
-            say(b" done");
-            say_counts(c);
-        }
-        Reading::Refused(r) => {
-            say(b" refused");
-            say_number(number_of(r));
-        }
-    }
+    say_reading(store::read(bench(), chips, records, slots, lost, page, &mut buffer));
     say_number(first(&buffer));
     say(b"\n");
 }
@@ -204,6 +194,40 @@ fn damage_chip(chips: &mut [u8], records: &[u8], slots: &[u8], at: usize, byte: 
     read(chips, records, slots, 255, 1);
     read(chips, records, slots, 1, 1);
     chips[at] = was;
+}
+
+fn say_reading(answer: Reading) {
+    match answer {
+        Reading::Done(c) => {
+            say(b" done");
+            say_counts(c);
+        }
+        Reading::Refused(r) => {
+            say(b" refused");
+            say_number(number_of(r));
+        }
+    }
+}
+
+// A geometry of seven members, chips that are too short, a buffer that is.
+fn turned_back(chips: &[u8], records: &[u8], slots: &[u8]) {
+    let mut page = [7u8; 16];
+    let mut half = [7u8; 8];
+    let seven = Geometry {
+        n: 7,
+        w: 16,
+        k: 4,
+        b: 4,
+        s: 6,
+        m: 2,
+    };
+    say(b"geometry, buffers, data");
+    say_reading(store::read(seven, chips, records, slots, 255, 0, &mut page));
+    say_reading(store::read(bench(), slots, records, slots, 255, 0, &mut page));
+    say_reading(store::read(bench(), chips, records, slots, 255, 0, &mut half));
+    say_number(first(&page));
+    say_number(first(&half));
+    say(b"\n");
 }
 
 fn reads(chips: &[u8], records: &[u8], slots: &[u8]) {
@@ -289,6 +313,7 @@ fn filled(chips: &mut [u8], records: &mut [u8], slots: &mut [u8]) {
     fill_partial(chips, records, slots);
     fill_parity(chips, records);
     reads(chips, records, slots);
+    turned_back(chips, records, slots);
 }
 
 fn damaged(chips: &mut [u8], records: &mut [u8], slots: &[u8]) {

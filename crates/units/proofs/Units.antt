@@ -130,10 +130,6 @@ pub length-unit : (n u i : ℕ) (xs : List ℕ) → length xs ≡ n * u → i < 
 unfolding unit
 length-unit n u i xs e h = length-part (i * u) u xs (unit-fits n u i xs e h)
 
-pub unit-outside : (n u i : ℕ) (xs : List ℕ) → length xs ≡ n * u → n ≤ i → unit u i xs ≡ []
-unfolding unit
-unit-outside n u i xs e h = part-outside (i * u) u xs (omega (arith, mul-le-mul-right u h))
-
 pub part-unit : (u i a k : ℕ) (xs : List ℕ) → a + k ≤ u → part a k (unit u i xs) ≡ part (i * u + a) k xs
 unfolding unit
 part-unit u i a k xs h = part-part (i * u) u a k xs h

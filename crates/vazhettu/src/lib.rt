@@ -40,6 +40,7 @@ fn number_of(r: Refusal) -> u64
     }
 }
 
+// A report of an answer that has counts.
 fn with_counts(status: u64, c: Counts) -> Report
     ensures { λ r. ⌜ r ≡ reportOf status c ⌝ }
 {
@@ -52,6 +53,7 @@ fn with_counts(status: u64, c: Counts) -> Report
     }
 }
 
+// A report of a refusal, whose counts are zero.
 fn without_counts(r: Refusal) -> Report
     ensures { λ t. ⌜ t ≡ reportOf (refusalNumber r) (record { reads = 0; programs = 0; erases = 0; stores = 0 }) ⌝ }
 {
@@ -64,6 +66,7 @@ fn without_counts(r: Refusal) -> Report
     }
 }
 
+// A report of the answer of a call that stores.
 fn report_of(a: Answer) -> Report
     ensures { λ r. ⌜ r ≡ reported a ⌝ }
 {
@@ -74,6 +77,7 @@ fn report_of(a: Answer) -> Report
     }
 }
 
+// A report of the answer of a read.
 fn read_report_of(a: Reading) -> Report
     ensures { λ r. ⌜ r ≡ readReported a ⌝ }
 {

@@ -1,10 +1,9 @@
 -- How long the list of a call can be.
-use Prim.Native.Nat.{ℕ, _+_, _*_, _^_, _≤_}
-use native.Mathlib.Nat.{mul-le-mul, mul-one}
+use Prim.Native.Nat.{ℕ, _+_, _*_, _≤_}
+use native.Mathlib.Nat.{mul-one}
 use native.Mathlib.Omega.{arith}
-use mathlib.Core.Path.{_≡_}
 use mathlib.Core.Bool.{Bool, true, false, cond}
-use mathlib.Core.List.{List, [], _∷_}
+use mathlib.Core.List.{[], _∷_}
 use lib.ListN.{length, length-append}
 use lib.Dec.{eqb}
 use Rattle.layout.specs.Layout.{Layout, pageIn}
@@ -12,8 +11,7 @@ use Rattle.layout.specs.Page.{pageAt}
 use Rattle.layout.specs.Record.{recordAt}
 use Rattle.layout.specs.Collection.{Collection, collectionAt}
 use Rattle.layout.specs.Images.{Images}
-use Rattle.layout.proofs.Limits.{Within}
-use Rattle.stores.specs.Steps.{Step, andThen, stepsBelow, thenBelow}
+use Rattle.stores.specs.Steps.{Step, andThen, thenBelow}
 use Rattle.stores.proofs.Lengths.{length-below, length-then-below}
 use Rattle.rules.specs.Format.{eraseChip, eraseBlock, emptyStripe, formatSteps}
 use Rattle.rules.specs.Open.{due, moveStep, moveFrom, moveSteps, ending, finishOf, finishSteps}

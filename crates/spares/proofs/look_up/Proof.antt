@@ -8,7 +8,7 @@ use Rattle.layout.specs.Page.{Page}
 use Rattle.layout.specs.Record.{recordAt}
 use Rattle.layout.proofs.Limits.{within}
 use Rattle.units.proofs.Tallies.{ones}
-use Rattle.spares.specs.Scans.{stampedIn, Fetched}
+use Rattle.spares.specs.Scans.{stampedIn, StampsOf}
 use Rattle.spares.proofs.Fetching.{stamp-is}
 use Rattle.spares.proofs.Scanning.{OnChip, start-low, place-low, Scanned, scan-start, scan-more, scan-all}
 use Rattle.spares.proofs.look_up.Statement.{statement}
@@ -18,7 +18,7 @@ abbrev Inv-loop : tie.InvT-loop
 Inv-loop records g c b stamps k first ordered₀ clean₀ named₀ used-before₀ i₀ ordered clean named used-before i =
     let l = layoutOf g in
     (i ≤ g .k) × (named ≤ i)
-    × ((x : ℕ → Page) → Fetched l x b stamps → Scanned l (recordAt l records) x c b i ordered clean named used-before)
+    × ((x : ℕ → Page) → StampsOf l x b stamps → Scanned l (recordAt l records) x c b i ordered clean named used-before)
 
 abbrev μ-loop : tie.MeasureT-loop
 μ-loop records g c b stamps k first ordered₀ clean₀ named₀ used-before₀ i₀ ordered clean named used-before i =
@@ -75,7 +75,7 @@ with-place : (c : tie.Joined1 Inv-loop μ-loop) (x : ℕ → Page)
     → let a = c .before .before .before .before .before .before .before .args in
     let l = layoutOf (a .g) in
     let o = c .before .before .before .before .before .loop in
-    Fetched l x (a .b) (a .stamps .now)
+    StampsOf l x (a .b) (a .stamps .now)
     → c .if1 .named ≡ o .named + ones (stampedIn l (recordAt l (a .records .now)) x (a .c) (a .b) (o .i))
 with-place c x f =
     let a = c .before .before .before .before .before .before .before .args in
