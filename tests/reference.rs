@@ -1,4 +1,4 @@
-//! The weight store, written a second time from document 01 alone.
+//! The weight store, written a second time, from document 01 and the readings of its open points.
 //!
 //! It is the plain model that random calls are compared with: it owns its images, makes one
 //! store after the other as the document lists them, and takes time linear in the images.
