@@ -1,4 +1,6 @@
+pub mod Glances
 pub mod Plains
 pub mod Sizes
 pub mod Tables
+pub mod Tops
 pub mod Totals

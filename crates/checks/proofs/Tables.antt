@@ -1,9 +1,9 @@
 -- The pass over the records: what is known once those below j are passed.
-use Prim.Native.Nat.{ℕ, _+_, _<_}
+use Prim.Native.Nat.{ℕ, _+_, _*_, _≤_, _<_}
 use native.Mathlib.Numerals.{add-one}
 use native.Mathlib.Omega.{arith}
-use mathlib.Core.Path.{_≡_, refl, sym}
-use mathlib.Core.Bool.{Bool, true, false, not, cond, _&&_, _||_, or-true, or-false}
+use mathlib.Core.Path.{_≡_, refl, sym, ap}
+use mathlib.Core.Bool.{Bool, true, false, not, cond, _&&_, _||_, and-true, or-true, or-false}
 use mathlib.Core.List.{List}
 use lib.ListN.{length, getD, set, replicate, length-set, getD-replicate}
 use lib.Seq.{getD-set-same, getD-set-other}
@@ -11,49 +11,94 @@ use lib.Dec.{eqb, leb}
 use borrow.Author.Tests.{eq-eqb, ne-eqb}
 use Rattle.units.specs.Look.{allBelow, someBelow, countBelow}
 use Rattle.units.proofs.Looks.{by-same}
-use Rattle.layout.specs.Layout.{Layout}
+use Rattle.units.proofs.Sums.{sum-start, sum-more}
+use Rattle.layout.specs.declared.Geometry.{Geometry}
+use Rattle.layout.specs.Layout.{layoutOf}
 use Rattle.layout.specs.Record.{Record, slotted, slotOf}
 use Rattle.layout.specs.Collection.{Collection}
-use Rattle.rules.specs.Sound.{ownSlot, soundAt, recordsSound, collectionSound}
+use Rattle.rules.specs.Sound.{recordSound, ownSlot, soundAt, recordsSound, collectionSound}
+use Rattle.codec.specs.declared.StripeRecord.{StripeRecord}
+use Rattle.codec.specs.Views.{recordFrom, SmallRecord}
+use Rattle.names.specs.Stamps.{recordNames, namesIn}
+use Rattle.checks.specs.declared.Glance.{Glance}
+use Rattle.checks.specs.Plain.{Glanced}
 
--- every record below j is sound by itself, has its own slot, is counted, and its slot is marked
-pub record Passed (l : Layout) (r : ℕ → Record) (j : ℕ) (seen : List Bool) (sound own : Bool) (count : ℕ) : Type 0 where
+-- every record below j is sound by itself, has its own slot and is counted; its slot, where it has one, is marked; and its names, of
+-- which there are at most 13, are counted too
+pub record Passed (g : Geometry) (r : ℕ → Record) (j : ℕ) (seen : List Bool) (sound own : Bool) (count names : ℕ) : Type 0 where
   pub long : length seen ≡ 256
-  pub marks : (i : ℕ) → i < 256 → getD seen i false ≡ someBelow j (slotOf r i)
-  pub sounds : sound ≡ allBelow j (soundAt l r)
+  pub marks : (i : ℕ) → i < 255 → getD seen i false ≡ someBelow j (slotOf r i)
+  pub sounds : sound ≡ allBelow j (soundAt (layoutOf g) r)
   pub owns : own ≡ allBelow j (ownSlot r)
   pub counts : count ≡ countBelow j (slotted r)
+  pub named : names ≡ namesIn (layoutOf g) r j
+  pub few : names ≤ 13 * j
 
 -- before the first record no slot is marked
-pub passed-start : {l : Layout} {r : ℕ → Record} → Passed l r 0 (replicate 256 false) true true 0
+pub passed-start : {g : Geometry} {r : ℕ → Record} → Passed g r 0 (replicate 256 false) true true 0 0
 unfolding allBelow someBelow countBelow
-passed-start =
-    record { long = refl; marks = λ i h. getD-replicate 256 i false false h; sounds = refl; owns = refl; counts = refl }
+passed-start {g} {r} =
+    record {
+      long = refl;
+      marks = λ i h. getD-replicate 256 i false false (omega arith);
+      sounds = refl;
+      owns = refl;
+      counts = refl;
+      named = sym (sum-start (λ j. recordNames (layoutOf g) (r j)));
+      few = omega arith;
+    }
 
-module _ {l : Layout} {r : ℕ → Record} {j : ℕ} {seen : List Bool} {sound own : Bool} {count : ℕ} (p : Passed l r j seen sound own count) where
+module _ {g : Geometry} {r : ℕ → Record} {j : ℕ} {seen : List Bool} {sound own : Bool} {count names : ℕ} (p : Passed g r j seen sound own count names) where
+  -- the names with those of record j
+  more-names : {more : ℕ} → more ≡ recordNames (layoutOf g) (r j) → names + more ≡ namesIn (layoutOf g) r (j + 1)
+  more-names e = rw (add-one, sum-more j (λ i. recordNames (layoutOf g) (r i)), e, p .named)
+
+  -- record j is plain
+  pub passed-plain : {look : Glance} → Glanced (layoutOf g) (r j) look → look .plain ≡ true → Passed g r (j + 1) seen sound own count (names + look .names)
+  unfolding allBelow someBelow countBelow
+  passed-plain look t =
+      let e = look .found t in
+      record {
+        long = p .long;
+        marks = λ i h. rw (add-one, e .slotless, ne-eqb 255 i (omega arith), or-false) (p .marks i h);
+        sounds = rw (add-one, e .sound, and-true) (p .sounds);
+        owns = rw (add-one, e .slotless, and-true) (p .owns);
+        counts = rw (add-one, e .slotless) (p .counts);
+        named = more-names (e .counted);
+        few = omega (arith, p .few, look .few);
+      }
+
   -- the table with the slot of record j marked
-  marked : {slot : ℕ} → slot ≡ r j .slot → (i : ℕ) → i < 256 → getD (set seen slot true) i false ≡ someBelow (j + 1) (slotOf r i)
+  marked : {slot : ℕ} → slot ≡ r j .slot → (i : ℕ) → i < 255 → getD (set seen slot true) i false ≡ someBelow (j + 1) (slotOf r i)
   unfolding someBelow
   marked {slot} s i h = by-same i slot
       (λ q. rw (add-one, q, getD-set-same seen slot true false (omega (arith, p .long)), eq-eqb (r j .slot) slot (sym s), or-true))
       (λ d. rw (add-one, getD-set-other seen slot i true false d, ← s, ne-eqb slot i (λ q. d (sym q)), or-false) (p .marks i h))
 
-  -- record j passed too
-  pub passed-next : {slot : ℕ} {ok : Bool} {next : ℕ}
-      → slot ≡ r j .slot → slot < 256 → ok ≡ soundAt l r j → next ≡ cond (not (eqb slot 255)) (count + 1) count
-      → Passed l r (j + 1) (set seen slot true) (sound && ok) (own && (not (not (eqb slot 255)) || not (getD seen slot false))) next
-  unfolding allBelow countBelow
-  passed-next {slot} s h o e =
+  -- record j is looked at in full
+  pub passed-next : {e : StripeRecord} {ok : Bool} {more next : ℕ}
+      → (recordFrom (layoutOf g) e ≡ r j) × SmallRecord e
+      → ok ≡ recordSound (layoutOf g) (recordFrom (layoutOf g) e)
+      → ((g′ : Geometry) → more ≡ recordNames (layoutOf g′) (recordFrom (layoutOf g′) e)) × (more ≤ 13)
+      → next ≡ cond (not (eqb (e .slot) 255)) (count + 1) count
+      → Passed g r (j + 1) (set seen (e .slot) true) (sound && ok) (own && (not (not (eqb (e .slot) 255)) || not (getD seen (e .slot) false))) next (names + more)
+  unfolding allBelow countBelow recordFrom
+  passed-next {e} (same, small) o (m, most) n =
+      let s : e .slot ≡ r j .slot = ap (λ (x : Record). x .slot) same in
       record {
         long = rw length-set (p .long);
         marks = marked s;
-        sounds = rw (add-one, p .sounds, o);
-        owns = rw (add-one, p .owns, p .marks slot h, s);
-        counts = rw (add-one, e, p .counts, add-one, s);
+        sounds = rw (add-one, p .sounds, o, same);
+        owns = by-same (e .slot) 255
+            (λ q. rw (add-one, p .owns, ← s, eq-eqb (e .slot) 255 q))
+            (λ d. rw (add-one, p .owns, p .marks (e .slot) (omega (arith, small .slot)), s));
+        counts = rw (add-one, n, p .counts, add-one, s);
+        named = more-names (rw same at (m g));
+        few = omega (arith, p .few);
       }
 
   -- once all are passed, the tests are those of the definition
-  pub passed-all : j ≡ l .S → (co : Collection)
-      → sound && own && leb count (l .M) && collectionSound l co ≡ recordsSound l r co
+  pub passed-all : j ≡ g .s → (co : Collection)
+      → sound && own && leb count (g .m) && collectionSound (layoutOf g) co ≡ recordsSound (layoutOf g) r co
   unfolding recordsSound
   passed-all e co = rw (p .sounds, p .owns, p .counts, e)

@@ -2,20 +2,19 @@
 use Prim.Native.Nat.{ℕ, _+_, _≤_}
 use native.Mathlib.Numerals.{add-one}
 use native.Mathlib.Omega.{arith}
-use mathlib.Core.Path.{_≡_, refl}
+use mathlib.Core.Path.{_≡_}
 use mathlib.Core.Bool.{Bool, not, cond}
 use mathlib.Core.List.{List}
 use lib.ListN.{getD}
 use lib.Dec.{eqb}
 use borrow.Author.Tests.{lt-ltb}
-use Rattle.units.specs.Look.{countBelow, sumBelow}
+use Rattle.units.specs.Look.{countBelow}
 use Rattle.units.proofs.Counts.{count-start, count-cong, count-le}
 use Rattle.layout.specs.declared.Geometry.{Geometry}
-use Rattle.layout.specs.Layout.{Layout, layoutOf, none}
-use Rattle.layout.specs.Record.{Record}
+use Rattle.layout.specs.Layout.{layoutOf, none}
 use Rattle.codec.specs.declared.StripeRecord.{StripeRecord}
 use Rattle.codec.specs.Views.{recordFrom, sixOf}
-use Rattle.names.specs.Stamps.{hasCurrent, hasOld, recordNames, namesIn}
+use Rattle.names.specs.Stamps.{hasCurrent, hasOld, recordNames}
 use Rattle.units.proofs.Tallies.{ones, count-more}
 
 -- number m of a list is a page
@@ -47,13 +46,3 @@ names-all g e =
     let currents = count-cong 6 (given (e .current)) (hasCurrent (layoutOf g) r) (λ m h. rw (lt-ltb m 6 h)) in
     let olds = count-cong 6 (given (e .old)) (hasOld (layoutOf g) r) (λ m h. rw (lt-ltb m 6 h)) in
     rw (currents, olds)
-
--- the names of no record, and of one record more
-module _ (l : Layout) (r : ℕ → Record) where
-  pub names-start : 0 ≡ namesIn l r 0
-  unfolding sumBelow
-  names-start = refl
-
-  pub names-next : (j : ℕ) → namesIn l r j + recordNames l (r j) ≡ namesIn l r (j + 1)
-  unfolding sumBelow
-  names-next j = rw add-one

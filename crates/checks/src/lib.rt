@@ -1,21 +1,25 @@
 //! The checks of a geometry, of the buffers' lengths and of the records.
 
+use codec::NONE;
 use codec::StripeRecord;
 use codec::bit_of;
 use codec::collection_at;
 use codec::collection_ends;
 use codec::record_at;
 use layout::Geometry;
+use slices::number_at;
 ghost use mathlib.Core.Path.{_≡_};
 ghost use mathlib.Core.Bool.{true};
-ghost use Prim.Native.Nat.{_≤_, _<_};
+ghost use Prim.Native.Nat.{_+_, _*_, _≤_, _<_};
+ghost use lib.ListN.{length};
 ghost use Rattle.layout.specs.Layout.{layoutOf, limits};
 ghost use Rattle.layout.specs.Record.{recordAt};
 ghost use Rattle.layout.specs.Collection.{collectionAt};
 ghost use Rattle.layout.specs.Images.{lengths};
 ghost use Rattle.rules.specs.Sound.{memberSound, recordSound, collectionSound, recordsSound};
 ghost use Rattle.codec.specs.Fit.{RecordsFit};
-ghost use Rattle.codec.specs.Views.{recordFrom, SmallRecord};
+ghost use Rattle.codec.specs.Views.{recordFrom};
+ghost use Rattle.checks.specs.Plain.{Ranges, WordAt, Glanced};
 ghost use Rattle.names.specs.Stamps.{recordNames, namesIn};
 
 // Whether the geometry is within the limits. No product is formed before its factors are known to be small.
@@ -67,14 +71,14 @@ fn member_passes(g: Geometry, e: StripeRecord, m: usize) -> bool
     let current = e.current[m];
     let old = e.old[m];
     let bit = bit_of(e.bitmap, m);
-    let unwritten = current == 65535;
-    let no_old = old == 65535;
+    let unwritten = current == NONE;
+    let no_old = old == NONE;
     (unwritten | (current < pages))
         & (no_old | (old < pages))
         & ((m < n) | (unwritten & no_old))
         & (no_old | bit)
         & (!bit | (!unwritten & !(current == old)))
-        & ((no_old & (unwritten | bit)) | !(e.parity == 65535))
+        & ((no_old & (unwritten | bit)) | !(e.parity == NONE))
 }
 
 // Whether a record is sound by itself.
@@ -97,42 +101,79 @@ fn record_passes(g: Geometry, e: StripeRecord) -> bool
         e.slot <= most
     };
     members
-        & ((e.parity == 65535) | (e.parity < pages))
+        & ((e.parity == NONE) | (e.parity < pages))
         & (e.bitmap < (1 << n))
         & slot
         & (e.rest == 0)
 }
 
-// The same of a record with nothing in the partial parity: no old page, and a parity page where there is a current one.
-fn plain_passes(g: Geometry, e: StripeRecord) -> bool
-    requires { ⌜ (limits (layoutOf g) ≡ true) × SmallRecord e × (e .bitmap ≡ 0) ⌝ }
-    ensures { λ r. ⌜ r ≡ recordSound (layoutOf g) (recordFrom (layoutOf g) e) ⌝ }
-{
-    let n = g.n as usize;
-    let pages = (g.b * g.k) as usize;
-    let o = e.old;
-    // none is the largest number, so six numbers are all none exactly if their sum is this
-    let no_olds = o[0] + o[1] + o[2] + o[3] + o[4] + o[5] == 393210;
-    let committed = e.parity != 65535;
-    let mut members = true;
-    let mut m = 0;
-    while m < 6 {
-        let current = e.current[m];
-        members = members & ((current == 65535) | ((current < pages) & (m < n) & committed));
-        m += 1;
-    }
-    members & no_olds & (!committed | (e.parity < pages)) & (e.slot == 255) & (e.rest == 0)
+// What a short look at a record brings.
+struct Glance {
+    // it is sound and has no page in the partial parity
+    plain: bool,
+    // its page numbers, where it is plain
+    names: usize,
 }
 
-// Most records have nothing in the partial parity, and are looked at in the shorter way.
-fn either_passes(g: Geometry, e: StripeRecord) -> bool
-    requires { ⌜ (limits (layoutOf g) ≡ true) × SmallRecord e ⌝ }
-    ensures { λ r. ⌜ r ≡ recordSound (layoutOf g) (recordFrom (layoutOf g) e) ⌝ }
+// For each of the first eight numbers of a plain record, how many page numbers it may be.
+fn ranges(g: Geometry) -> [u16; 8]
+    requires { ⌜ limits (layoutOf g) ≡ true ⌝ }
+    ensures { λ r. ⌜ Ranges (g .n) (g .b * g .k) r ⌝ }
 {
-    if e.bitmap == 0 {
-        return plain_passes(g, e);
+    let n = g.n as usize;
+    let pages = (g.b * g.k) as u16;
+    let mut tops = [0u16; 8];
+    let mut m = 0;
+    while m < n {
+        tops[m] = pages;
+        m += 1;
     }
-    record_passes(g, e)
+    tops
+}
+
+// The four numbers of two bytes from offset a on, as one.
+fn word_at(s: &[u8], a: usize) -> usize
+    requires { ⌜ a + 8 ≤ length (now s) ⌝ }
+    ensures { λ r. ⌜ WordAt (now (s .entry)) a r ⌝ }
+{
+    number_at(s, a)
+        + 65536 * number_at(s, a + 2)
+        + 4294967296 * number_at(s, a + 4)
+        + 281474976710656 * number_at(s, a + 6)
+}
+
+// Most records have nothing in the partial parity. Of these a short look tells that they are sound.
+fn glance_at(records: &[u8], g: Geometry, j: usize, tops: &[u16; 8]) -> Glance
+    requires { ⌜ RecordsFit g (now records) × (j < g .s) × Ranges (g .n) (g .b * g .k) (now tops) ⌝ }
+    ensures { λ r. ⌜ Glanced (layoutOf g) (recordAt (layoutOf g) (now (records .entry)) j) r ⌝ }
+{
+    let a = j * 32;
+    let pages = (g.b * g.k) as usize;
+    let last = word_at(records, a + 24);
+    let olds = word_at(records, a + 16);
+    let parity = last % 65536;
+    let committed = parity != NONE;
+    let mut low = true;
+    let mut names: usize = 0;
+    let mut m = 0;
+    while m < 8 {
+        // none is the largest number, and the next one is 0
+        let next = ((number_at(records, a + 2 * m) + 1) % 65536) as u16;
+        low = low & (next <= tops[m]);
+        if next != 0 {
+            names += 1;
+        }
+        m += 1;
+    }
+    let plain = low
+        & (olds == 18446744073709551615)
+        & (last / 65536 == 65280)
+        & (!committed | (parity < pages))
+        & (committed | (names == 0));
+    if committed {
+        names += 1;
+    }
+    Glance { plain, names }
 }
 
 // How many page numbers a record has.
@@ -142,15 +183,15 @@ fn names_of(e: StripeRecord) -> usize
     let mut names: usize = 0;
     let mut m = 0;
     while m < 6 {
-        if e.current[m] != 65535 {
+        if e.current[m] != NONE {
             names += 1;
         }
-        if e.old[m] != 65535 {
+        if e.old[m] != NONE {
             names += 1;
         }
         m += 1;
     }
-    if e.parity != 65535 {
+    if e.parity != NONE {
         names += 1;
     }
     names
@@ -191,6 +232,7 @@ pub fn scan_records(g: Geometry, records: &[u8]) -> RecordsScan
 {
     let s = g.s as usize;
     let most = g.m as usize;
+    let tops = ranges(g);
     let mut seen = [false; 256];
     let mut sound = true;
     let mut own = true;
@@ -198,15 +240,20 @@ pub fn scan_records(g: Geometry, records: &[u8]) -> RecordsScan
     let mut names: usize = 0;
     let mut j = 0;
     while j < s {
-        let e = record_at(records, g, j);
-        sound = sound & either_passes(g, e);
-        names += names_of(e);
-        let slot = e.slot;
-        let has = slot != 255;
-        own = own & (!has | !seen[slot]);
-        seen[slot] = true;
-        if has {
-            slotted += 1;
+        let look = glance_at(records, g, j, &tops);
+        if look.plain {
+            names += look.names;
+        } else {
+            let e = record_at(records, g, j);
+            sound = sound & record_passes(g, e);
+            names += names_of(e);
+            let slot = e.slot;
+            let has = slot != 255;
+            own = own & (!has | !seen[slot]);
+            seen[slot] = true;
+            if has {
+                slotted += 1;
+            }
         }
         j += 1;
     }

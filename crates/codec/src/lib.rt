@@ -20,6 +20,13 @@ ghost use Rattle.layout.specs.Images.{slotAt, chipsLength};
 ghost use Rattle.codec.specs.Fit.{ChipsFit, RecordsFit, SlotsFit};
 ghost use Rattle.codec.specs.Views.{recordFrom, collectionFrom, spareOf, pageFrom, sixAt, SmallRecord, SmallSpare, CollectionIs};
 
+// The number of no page.
+pub const NONE: usize = 65535;
+// The kinds of the pages that a record names.
+pub const DATA: usize = 68;
+
+pub const PARITY: usize = 80;
+
 // The record of a stripe.
 pub struct StripeRecord {
     pub current: [usize; 6],

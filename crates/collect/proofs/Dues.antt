@@ -4,7 +4,8 @@ use mathlib.Core.Path.{_≡_, refl, ap}
 use mathlib.Core.Bool.{Bool, true, false, not, _&&_, _||_, and-true, and-false}
 use lib.Dec.{leb, ltb, eqb}
 use borrow.Author.Tests.{ltb-false, leb-true, leb-false, lt-ltb, le-ltb, le-leb, lt-leb, eq-eqb}
-use Rattle.units.proofs.Looks.{by-order, both}
+use Rattle.units.proofs.Looks.{by-order}
+use Rattle.units.proofs.Tests.{neither}
 use Rattle.layout.specs.declared.Geometry.{Geometry}
 use Rattle.layout.specs.Layout.{Layout, layoutOf, limits, none, pages, inBlock}
 use Rattle.layout.specs.Page.{Page}
@@ -21,11 +22,6 @@ use Rattle.codec.specs.Views.{spareOf}
 pub pages-small : (g : Geometry) → limits (layoutOf g) ≡ true → pages (layoutOf g) ≤ 65535
 unfolding none
 pages-small g limited = within (layoutOf g) limited .pages-numbered
-
--- two tests that both fail
-neither : (x y : Bool) → x || y ≡ false → (x ≡ false) × (y ≡ false)
-neither true y e = both true refl e
-neither false y e = (refl, e)
 
 -- the code's test that page p stands before page a, or not before page b
 abbrev beside : ℕ → ℕ → ℕ → Bool

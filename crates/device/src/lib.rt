@@ -19,8 +19,8 @@ ghost use Prim.Native.Nat.{ℕ, _+_, _-_, _^_, _≤_, _<_, min};
 ghost use lib.ListN.{length};
 ghost use Rattle.layout.specs.Layout.{layoutOf, pages};
 ghost use Rattle.layout.specs.Record.{emptyRecord};
-ghost use Rattle.stores.specs.Store.{program as programStore, erase as eraseStore, slot as slotStore, stripe, collection, recorded};
-ghost use Rattle.stores.specs.Steps.{plain};
+ghost use Rattle.stores.specs.Store.{Store, program as programStore, erase as eraseStore, slot as slotStore, stripe, collection, recorded, apply};
+ghost use Rattle.stores.specs.Steps.{plain, programsOf, erasesOf};
 ghost use Rattle.codec.specs.Fit.{ChipsFit, RecordsFit, SlotsFit};
 ghost use Rattle.codec.specs.Views.{recordFrom, collectionFrom, pageFrom, SmallRecord, SmallSpare};
 ghost use Rattle.stores.specs.Allowance.{started, Sane, Ran, images};
@@ -152,14 +152,21 @@ pub fn store_slot(
     count(p, reads, 0, 0)
 }
 
-// Stores 32 bytes as record j of the S + 1.
-fn store_bytes(records: &mut [u8], g: Geometry, j: usize, bytes: &[u8])
-    requires { ⌜ RecordsFit g (now records) × (j ≤ g .s) × (length (now bytes) ≡ 32) ⌝ }
-    ensures { λ _. ⌜ now (records .exit) ≡ recorded (layoutOf g) j (now (bytes .entry)) (now (records .entry)) ⌝ }
+// Stores 32 bytes as record j of the S + 1, as any store does that makes just this of the images.
+fn store_bytes(records: &mut [u8], g: Geometry, j: usize, bytes: &[u8], p: Progress) -> Progress
+    requires { ⌜ RecordsFit g (now records) × (j ≤ g .s) × (length (now bytes) ≡ 32) × Sane p ⌝ }
+    ensures { λ r. ⌜ ((x : Store) (cs zs : List ℕ) → programsOf x ≡ 0 → erasesOf x ≡ 0
+        → images cs (recorded (layoutOf g) j (now (bytes .entry)) (now (records .entry))) zs
+        ≡ apply (layoutOf g) x (images cs (now (records .entry)) zs)
+        → Ran (layoutOf g) p (plain x ∷ []) r (images cs (now (records .entry)) zs) (images cs (now (records .exit)) zs)) ⌝ }
 {
+    if p.left == 0 {
+        return stop(p);
+    }
     let a = j * 32;
     let e = a + 32;
     copy(&mut records[a..e], bytes);
+    count(p, 0, 0, 0)
 }
 
 // Stores the record of stripe j.
@@ -174,12 +181,8 @@ pub fn store_record(
     ensures { λ r. ⌜ ((cs zs : List ℕ) → Ran (layoutOf g) p (plain (stripe j (recordFrom (layoutOf g) e)) ∷ [])
         r (images cs (now (records .entry)) zs) (images cs (now (records .exit)) zs)) ⌝ }
 {
-    if p.left == 0 {
-        return stop(p);
-    }
     let bytes = record_bytes(e);
-    store_bytes(records, g, j, &bytes);
-    count(p, 0, 0, 0)
+    store_bytes(records, g, j, &bytes, p)
 }
 
 // Twenty-six bytes of 255, a 0, a 255 and four of 0.
@@ -192,11 +195,7 @@ pub fn store_empty(records: &mut [u8], g: Geometry, j: usize, p: Progress) -> Pr
     ensures { λ r. ⌜ ((cs zs : List ℕ) → Ran (layoutOf g) p (plain (stripe j (emptyRecord (layoutOf g))) ∷ [])
         r (images cs (now (records .entry)) zs) (images cs (now (records .exit)) zs)) ⌝ }
 {
-    if p.left == 0 {
-        return stop(p);
-    }
-    store_bytes(records, g, j, &EMPTY);
-    count(p, 0, 0, 0)
+    store_bytes(records, g, j, &EMPTY, p)
 }
 
 // Stores the collection record.
@@ -210,11 +209,7 @@ pub fn store_collection(
     ensures { λ r. ⌜ ((cs zs : List ℕ) → Ran (layoutOf g) p (plain (collection (collectionFrom co)) ∷ [])
         r (images cs (now (records .entry)) zs) (images cs (now (records .exit)) zs)) ⌝ }
 {
-    if p.left == 0 {
-        return stop(p);
-    }
     let s = g.s as usize;
     let bytes = collection_bytes(co);
-    store_bytes(records, g, s, &bytes);
-    count(p, 0, 0, 0)
+    store_bytes(records, g, s, &bytes, p)
 }

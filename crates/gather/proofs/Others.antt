@@ -1,19 +1,24 @@
 -- The page numbers of the other members, from the code's struct, and that a sound record's are those of pages.
-use Prim.Native.Nat.{ℕ, _/_, _%_, _^_, _≤_, _<_}
+use Prim.Native.Nat.{ℕ, _≤_, _<_}
 use native.Mathlib.Omega.{arith}
-use mathlib.Core.Path.{_≡_, refl}
+use mathlib.Core.Path.{_≡_, refl, fun-ext}
 use mathlib.Core.Bool.{Bool, true, false, not, cond, _&&_}
 use mathlib.Core.List.{List}
 use lib.Dec.{eqb}
-use lib.ListN.{getD}
-use Rattle.units.proofs.Looks.{both}
+use lib.ListN.{length, getD, set, replicate, getD-replicate}
+use lib.Seq.{getD-set-same, getD-set-other}
+use borrow.Author.Tests.{eq-eqb, ne-eqb}
+use Rattle.units.proofs.Looks.{both, by-order, by-same}
 use Rattle.units.proofs.Tests.{cond-same}
 use Rattle.layout.specs.declared.Geometry.{Geometry}
 use Rattle.layout.specs.Layout.{Layout, layoutOf, none}
 use Rattle.layout.specs.Record.{Record, bit}
+use Rattle.layout.proofs.Limits.{Within}
+use Rattle.layout.proofs.Bits.{testBit}
 use Rattle.layout.proofs.Records.{bits-of-none}
 use Rattle.rules.specs.Read.{othersInside, othersUnderParity}
-use Rattle.rules.proofs.Soundness.Statements.{Numbered, RecordSound}
+use Rattle.rules.proofs.Soundness.Statements.{RecordSound}
+use Rattle.rules.proofs.Data.Parity.{numbered-others-inside, numbered-others-under-parity}
 use Rattle.codec.specs.declared.StripeRecord.{StripeRecord}
 use Rattle.codec.specs.Views.{sixOf, recordFrom}
 use Rattle.gather.specs.Numbers.{NumbersFit}
@@ -27,29 +32,38 @@ pub current-in : (g : Geometry) (e : StripeRecord) {r : Record} (m : ℕ) → re
 unfolding recordFrom
 current-in g e m q h = rw (← q) (six-in (layoutOf g) (e .current) m h)
 
-module _ (g : Geometry) (e : StripeRecord) (m i : ℕ) where
-  -- of the members in the bitmap
-  pub inside-at : i < 6
-      → othersInside (layoutOf g) m (recordFrom (layoutOf g) e) i
-      ≡ cond (eqb (e .bitmap / 2 ^ i % 2) 1 && not (eqb i m)) (getD (e .current) i 0) 65535
+module _ (g : Geometry) (i : ℕ) where
+  -- six that are none
+  nones : sixOf (layoutOf g) (replicate 6 65535) i ≡ 65535
+  nones = by-order i 6 (λ low. rw (six-in (layoutOf g) (replicate 6 65535) i low) (getD-replicate 6 i 65535 0 low)) (six-beyond g (replicate 6 65535) i)
+
+  -- six without number m
+  without : (xs : List ℕ) (m : ℕ) → length xs ≡ 6 → m < 6 → sixOf (layoutOf g) (set xs m 65535) i ≡ cond (eqb i m) 65535 (sixOf (layoutOf g) xs i)
+  without xs m six h = by-order i 6
+      (λ low. rw (six-in (layoutOf g) (set xs m 65535) i low, six-in (layoutOf g) xs i low) (by-same i m
+      (λ same. rw (eq-eqb i m same, same) (getD-set-same xs m 65535 0 (omega arith)))
+      (λ other. rw (ne-eqb i m other) (getD-set-other xs m i 65535 0 (omega arith)))))
+      (λ high. rw (six-beyond g (set xs m 65535) i high, six-beyond g xs i high, cond-same))
+
+-- the numbers xs that the bitmap chooses are those of the definition, where member m is left out
+module _ (g : Geometry) (e : StripeRecord) (m : ℕ) (six : length (e .current) ≡ 6) (h : m < 6) (xs : List ℕ) where
+  pub inside-chosen :
+      ((i : ℕ) → sixOf (layoutOf g) xs i ≡ cond (testBit (e .bitmap) i) (sixOf (layoutOf g) (set (e .current) m 65535) i) (sixOf (layoutOf g) (replicate 6 65535) i))
+      → sixOf (layoutOf g) xs ≡ othersInside (layoutOf g) m (recordFrom (layoutOf g) e)
   unfolding othersInside recordFrom bit none
-  inside-at h = rw (six-in (layoutOf g) (e .current) i h)
+  inside-chosen chosen = fun-ext λ i.
+      rw (chosen i, without g i (e .current) m six h, nones g i) (one-of (testBit (e .bitmap) i) (eqb i m) (sixOf (layoutOf g) (e .current) i))
+    where
+      one-of : (b s : Bool) (p : ℕ) → cond b (cond s 65535 p) 65535 ≡ cond (b && not s) p 65535
+      one-of true true p = refl
+      one-of true false p = refl
+      one-of false s p = refl
 
-  -- of those under the parity
-  pub under-at : i < 6
-      → othersUnderParity (layoutOf g) m (recordFrom (layoutOf g) e) i
-      ≡ cond (eqb (e .bitmap / 2 ^ i % 2) 1) (getD (e .old) i 0) (cond (eqb i m) 65535 (getD (e .current) i 0))
+  pub under-chosen :
+      ((i : ℕ) → sixOf (layoutOf g) xs i ≡ cond (testBit (e .bitmap) i) (sixOf (layoutOf g) (e .old) i) (sixOf (layoutOf g) (set (e .current) m 65535) i))
+      → sixOf (layoutOf g) xs ≡ othersUnderParity (layoutOf g) m (recordFrom (layoutOf g) e)
   unfolding othersUnderParity recordFrom bit none
-  under-at h = rw (six-in (layoutOf g) (e .current) i h, six-in (layoutOf g) (e .old) i h)
-
-  -- beyond the six members there is none
-  pub inside-beyond : 6 ≤ i → othersInside (layoutOf g) m (recordFrom (layoutOf g) e) i ≡ 65535
-  unfolding othersInside recordFrom bit none
-  inside-beyond h = rw (six-beyond g (e .current) i h, cond-same)
-
-  pub under-beyond : 6 ≤ i → othersUnderParity (layoutOf g) m (recordFrom (layoutOf g) e) i ≡ 65535
-  unfolding othersUnderParity recordFrom bit none
-  under-beyond h = rw (six-beyond g (e .current) i h, six-beyond g (e .old) i h, cond-same, cond-same)
+  under-chosen chosen = fun-ext λ i. rw (chosen i, without g i (e .current) m six h)
 
 -- ---- a sound record's numbers
 
@@ -58,30 +72,15 @@ module _ (g : Geometry) where
   abbrev l : Layout
   l = layoutOf g
 
-  -- whichever of two
-  either-numbered : (t : Bool) {a b : ℕ} → Numbered l a → Numbered l b → Numbered l (cond t a b)
-  either-numbered true x y = x
-  either-numbered false x y = y
-
-  -- none is no page
-  none-numbered : Numbered l (none l)
-  none-numbered d = absurd (d refl)
-
   -- a record with a bit has a slot
   pub slot-low : (r : Record) → RecordSound l r → (m : ℕ) → bit r m ≡ true → r .slot ≤ g .m
   slot-low r s m t = s .slot (λ z. both (bit r m) t (bits-of-none r z m))
 
-  module _ (r : Record) (s : RecordSound l r) (few : g .n ≤ 6) (m : ℕ) where
+  module _ (w : Within l) (r : Record) (s : RecordSound l r) (m : ℕ) where
     -- six numbers of the others inside may be gathered
     pub inside-fit : (xs : List ℕ) → sixOf l xs ≡ othersInside l m r → NumbersFit g xs
-    unfolding othersInside
-    inside-fit xs e = record {
-      fits = λ i h. rw e (either-numbered (bit r i && not (eqb i m)) (s .member i (omega arith) .current) none-numbered);
-    }
+    inside-fit xs e = record { fits = λ i h. rw e (numbered-others-inside l w r s m i h) }
 
     -- so it is with those under the parity
     pub under-fit : (xs : List ℕ) → sixOf l xs ≡ othersUnderParity l m r → NumbersFit g xs
-    unfolding othersUnderParity
-    under-fit xs e = record {
-      fits = λ i h. let t = s .member i (omega arith) in rw e (either-numbered (bit r i) (t .old) (either-numbered (eqb i m) none-numbered (t .current)));
-    }
+    under-fit xs e = record { fits = λ i h. rw e (numbered-others-under-parity l w r s m i h) }

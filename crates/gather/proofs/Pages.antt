@@ -1,24 +1,27 @@
--- Six page numbers filled in one by one, the pages of a stripe XORed member by member, and the front of the work page.
+-- Six page numbers chosen one by one, the pages of a stripe XORed member by member, and the front of the work page.
 use Prim.Native.Nat.{ℕ, _+_, _-_, _≤_, _<_}
 use native.Mathlib.Numerals.{add-one}
 use native.Mathlib.Nat.{sub-zero}
 use native.Mathlib.Omega.{arith}
-use mathlib.Core.Path.{_≡_, refl, fun-ext}
+use mathlib.Core.Path.{_≡_, refl}
 use mathlib.Core.Logic.{_≢_}
+use mathlib.Core.Bool.{true, false, cond}
 use mathlib.Core.List.{List, _++_}
-use lib.ListN.{length, getD, set, take, drop, replicate, length-append, length-set, length-replicate, getD-replicate}
+use lib.ListN.{length, getD, set, take, drop, replicate, length-append, length-set, length-replicate}
 use lib.Seq.{getD-set-same, getD-set-other, take-at}
 use borrow.Author.Tests.{eq-eqb, ne-eqb, le-ltb}
 use Rattle.units.specs.Look.{countBelow}
 use Rattle.units.specs.Units.{part}
 use Rattle.units.specs.Xor.{_⊕_, xorBelow}
 use Rattle.units.proofs.Looks.{at-last, by-order}
+use Rattle.units.proofs.Tests.{cond-same}
 use Rattle.units.proofs.Counts.{count-le}
 use Rattle.units.proofs.Units.{part-replicate}
 use Rattle.units.proofs.Xors.{xors-assoc, xor-nil-r, length-xors-left, xors-zeros-l}
 use Rattle.layout.specs.declared.Geometry.{Geometry}
 use Rattle.layout.specs.Layout.{layoutOf, none}
 use Rattle.layout.specs.Rotation.{memberChip}
+use Rattle.layout.proofs.Bits.{testBit}
 use Rattle.layout.specs.Page.{pageAt}
 use Rattle.rules.specs.Gather.{bytesAt, memberBytes, isPage, gathered, gatheredReads}
 use Rattle.rules.specs.Read.{Fetched}
@@ -33,44 +36,41 @@ module _ (g : Geometry) (xs : List ℕ) (m : ℕ) where
   unfolding sixOf none
   six-beyond h = rw (le-ltb m 6 h)
 
--- of six numbers those below i are f's, and the others are none
-pub record Filled (f : ℕ → ℕ) (i : ℕ) (xs : List ℕ) : Type 0 where
+-- of six numbers those below i are chosen by the bitmap, and the rest are still those of outside
+pub record Chosen (bitmap : ℕ) (inside outside : List ℕ) (i : ℕ) (xs : List ℕ) : Type 0 where
   pub long : length xs ≡ 6
-  pub so-far : (k : ℕ) → k < i → getD xs k 0 ≡ f k
-  pub rest : (k : ℕ) → i ≤ k → k < 6 → getD xs k 0 ≡ 65535
+  pub so-far : (k : ℕ) → k < i → getD xs k 0 ≡ cond (testBit bitmap k) (getD inside k 0) (getD outside k 0)
+  pub rest : (k : ℕ) → i ≤ k → getD xs k 0 ≡ getD outside k 0
 
 -- before the first number
-pub filled-none : (f : ℕ → ℕ) → Filled f 0 (replicate 6 65535)
-filled-none f = record {
-  long = refl;
-  so-far = λ k h. absurd (omega arith);
-  rest = λ k l h. getD-replicate 6 k 65535 0 h;
-}
+pub chosen-none : (bitmap : ℕ) (inside outside : List ℕ) → length outside ≡ 6 → Chosen bitmap inside outside 0 outside
+chosen-none bitmap inside outside six = record { long = six; so-far = λ k h. absurd (omega arith); rest = λ k h. refl }
 
-module _ {f : ℕ → ℕ} {i : ℕ} {xs : List ℕ} (s : Filled f i xs) where
-  -- the next number is stored
-  pub filled-more : (v : ℕ) → i < 6 → v ≡ f i → Filled f (i + 1) (set xs i v)
-  filled-more v h e = record {
+module _ {bitmap : ℕ} {inside outside : List ℕ} {i : ℕ} {xs : List ℕ} (s : Chosen bitmap inside outside i xs) where
+  -- the next member is in the bitmap
+  pub chosen-in : i < 6 → testBit bitmap i ≡ true → Chosen bitmap inside outside (i + 1) (set xs i (getD inside i 0))
+  chosen-in h t = record {
     long = rw length-set (s .long);
     so-far = λ k b. at-last k i (omega arith)
-        (λ low. rw (getD-set-other xs i k v 0 (omega arith)) (s .so-far k low))
-        (λ same. rw (same, getD-set-same xs i v 0 (omega arith)) e);
-    rest = λ k l b. rw (getD-set-other xs i k v 0 (omega arith)) (s .rest k (omega arith) b);
+        (λ low. rw (getD-set-other xs i k (getD inside i 0) 0 (omega arith)) (s .so-far k low))
+        (λ same. rw (same, t) (getD-set-same xs i (getD inside i 0) 0 (omega arith)));
+    rest = λ k b. rw (getD-set-other xs i k (getD inside i 0) 0 (omega arith)) (s .rest k (omega arith));
   }
 
-  -- the next number is none
-  pub filled-skip : i < 6 → f i ≡ 65535 → Filled f (i + 1) xs
-  filled-skip h e = record {
+  -- or not
+  pub chosen-out : testBit bitmap i ≡ false → Chosen bitmap inside outside (i + 1) xs
+  chosen-out t = record {
     long = s .long;
-    so-far = λ k b. at-last k i (omega arith) (s .so-far k) (λ same. rw (same, e) (s .rest i (omega arith) h));
-    rest = λ k l b. s .rest k (omega arith) b;
+    so-far = λ k b. at-last k i (omega arith) (s .so-far k) (λ same. rw (same, t) (s .rest i (omega arith)));
+    rest = λ k b. s .rest k (omega arith);
   }
 
   -- all six
-  pub filled-all : 6 ≤ i → (g : Geometry) → ((k : ℕ) → 6 ≤ k → f k ≡ 65535) → sixOf (layoutOf g) xs ≡ f
-  filled-all h g none-beyond = fun-ext λ k. by-order k 6
-      (λ low. rw (six-in (layoutOf g) xs k low) (s .so-far k (omega arith)))
-      (λ high. rw (six-beyond g xs k high, none-beyond k high))
+  pub chosen-all : 6 ≤ i → (g : Geometry) (k : ℕ)
+      → sixOf (layoutOf g) xs k ≡ cond (testBit bitmap k) (sixOf (layoutOf g) inside k) (sixOf (layoutOf g) outside k)
+  chosen-all h g k = by-order k 6
+      (λ low. rw (six-in (layoutOf g) xs k low, six-in (layoutOf g) inside k low, six-in (layoutOf g) outside k low) (s .so-far k (omega arith)))
+      (λ high. rw (six-beyond g xs k high, six-beyond g inside k high, six-beyond g outside k high, cond-same))
 
 -- ---- XOR over the members
 

@@ -1,5 +1,6 @@
 //! XOR over the pages of a stripe, and the read of a page.
 
+use codec::NONE;
 use codec::StripeRecord;
 use codec::bit_of;
 use codec::member_chip;
@@ -13,8 +14,9 @@ use slices::fill;
 use slices::xor_into;
 ghost use mathlib.Core.Path.{_≡_};
 ghost use mathlib.Core.Logic.{_≢_};
-ghost use mathlib.Core.Bool.{true};
-ghost use Prim.Native.Nat.{_≤_, _<_};
+ghost use mathlib.Core.Bool.{true, cond};
+ghost use Prim.Native.Nat.{ℕ, _/_, _%_, _^_, _≤_, _<_};
+ghost use lib.Dec.{eqb};
 ghost use lib.ListN.{length, replicate};
 ghost use Rattle.units.specs.Xor.{_⊕_};
 ghost use Rattle.layout.specs.Layout.{layoutOf, none};
@@ -39,7 +41,7 @@ pub fn gather(work: &mut [u8], chips: &[u8], g: Geometry, j: usize, numbers: [us
     let mut m = 0;
     while m < n {
         let p = numbers[m];
-        if p != 65535 {
+        if p != NONE {
             xor_into(work, page_data(chips, g, member_chip(g, j, m), p));
             reads += 1;
         }
@@ -48,36 +50,41 @@ pub fn gather(work: &mut [u8], chips: &[u8], g: Geometry, j: usize, numbers: [us
     reads
 }
 
-// The current pages of the members in the bitmap, but for member m.
-fn others_inside(e: StripeRecord, m: usize) -> [usize; 6]
-    ensures { λ r. ⌜ ((g : Geometry) → sixOf (layoutOf g) r ≡ othersInside (layoutOf g) m (recordFrom (layoutOf g) e)) ⌝ }
+// The numbers of the members in the bitmap, from inside, and those of the others, from outside.
+fn chosen(bitmap: usize, inside: [usize; 6], outside: [usize; 6]) -> [usize; 6]
+    ensures { λ r. ⌜ ((g : Geometry) (i : ℕ) → sixOf (layoutOf g) r i
+        ≡ cond (eqb (bitmap / 2 ^ i % 2) 1) (sixOf (layoutOf g) inside i) (sixOf (layoutOf g) outside i)) ⌝ }
 {
-    let mut numbers = [65535usize; 6];
+    let mut numbers = outside;
     let mut i = 0;
     while i < 6 {
-        if bit_of(e.bitmap, i) & (i != m) {
-            numbers[i] = e.current[i];
+        if bit_of(bitmap, i) {
+            numbers[i] = inside[i];
         }
         i += 1;
     }
     numbers
 }
 
+// The current pages of the members in the bitmap, but for member m.
+fn others_inside(e: StripeRecord, m: usize) -> [usize; 6]
+    requires { ⌜ m < 6 ⌝ }
+    ensures { λ r. ⌜ ((g : Geometry) → sixOf (layoutOf g) r ≡ othersInside (layoutOf g) m (recordFrom (layoutOf g) e)) ⌝ }
+{
+    let mut current = e.current;
+    current[m] = NONE;
+    chosen(e.bitmap, current, [NONE; 6])
+}
+
 // The pages that the parity was stored over, but for member m: the old ones of the bitmap, and the current ones of the others.
 fn others_under_parity(e: StripeRecord, m: usize) -> [usize; 6]
+    requires { ⌜ m < 6 ⌝ }
     ensures { λ r. ⌜ ((g : Geometry) → sixOf (layoutOf g) r ≡ othersUnderParity (layoutOf g) m (recordFrom (layoutOf g) e)) ⌝ }
 {
-    let mut numbers = [65535usize; 6];
-    let mut i = 0;
-    while i < 6 {
-        if bit_of(e.bitmap, i) {
-            numbers[i] = e.old[i];
-        } else if i != m {
-            numbers[i] = e.current[i];
-        }
-        i += 1;
-    }
-    numbers
+    let old = e.old;
+    let mut current = e.current;
+    current[m] = NONE;
+    chosen(e.bitmap, old, current)
 }
 
 // Work, of zeros, becomes member m of stripe j as the partial parity has it.
@@ -161,7 +168,7 @@ pub fn fetch(
 {
     let e = record_at(records, g, j);
     let p = e.current[m];
-    if p == 65535 {
+    if p == NONE {
         fill(buffer, 0);
         return 0;
     }

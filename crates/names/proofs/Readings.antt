@@ -4,14 +4,13 @@ use native.Mathlib.Numerals.{add-one}
 use native.Mathlib.Omega.{arith}
 use mathlib.Core.Path.{_≡_, refl, ap}
 use mathlib.Core.Logic.{_≢_}
-use mathlib.Core.Bool.{Bool, true, false, not, _&&_, _||_}
+use mathlib.Core.Bool.{false, not, _&&_, _||_}
 use mathlib.Core.List.{List}
 use lib.Dec.{eqb}
 use borrow.Author.Tests.{lt-ltb, le-ltb, eq-eqb, ne-eqb}
 use Rattle.units.specs.Number.{number}
 use Rattle.units.specs.Units.{part}
 use Rattle.units.proofs.Units.{part-unit}
-use Rattle.units.proofs.Looks.{both}
 use Rattle.units.proofs.Counts.{count-start, count-le}
 use Rattle.layout.specs.declared.Geometry.{Geometry}
 use Rattle.layout.specs.Layout.{Layout, layoutOf, none}
@@ -98,15 +97,3 @@ module _ (g : Geometry) (r : ℕ → Record) (c : ℕ) where
   pub names-few : (j : ℕ) → namesBelow (layoutOf g) r c j ≤ 2 * j
   unfolding namesBelow
   names-few j = omega (arith, count-le j (hasMain (layoutOf g) r c), count-le j (hasSide (layoutOf g) r c))
-
--- a kind or a member that differs
-pub wrong-tag : (a b m : Bool) → not a || not b ≡ true → a && b && m ≡ false
-wrong-tag true true m h = both false h refl
-wrong-tag true false m h = refl
-wrong-tag false b m h = refl
-
--- neither does
-pub right-tag : (a b m : Bool) → not a || not b ≡ false → a && b && m ≡ m
-right-tag true true m h = refl
-right-tag true false m h = both true refl h
-right-tag false b m h = both true refl h

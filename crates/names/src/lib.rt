@@ -1,5 +1,8 @@
 //! Which pages the records name.
 
+use codec::DATA;
+use codec::NONE;
+use codec::PARITY;
 use codec::parity_chip;
 use codec::spare_at;
 use layout::Geometry;
@@ -38,8 +41,8 @@ pub fn stripe_pages(records: &[u8], g: Geometry, c: usize, j: usize) -> StripePa
     if c == parity {
         return StripePages {
             main: number_at(records, a + 24),
-            side: 65535,
-            kind: 80,
+            side: NONE,
+            kind: PARITY,
             member: 0,
         };
     }
@@ -47,7 +50,7 @@ pub fn stripe_pages(records: &[u8], g: Geometry, c: usize, j: usize) -> StripePa
     StripePages {
         main: number_at(records, a + 2 * m),
         side: number_at(records, a + 12 + 2 * m),
-        kind: 68,
+        kind: DATA,
         member: m,
     }
 }
@@ -96,10 +99,10 @@ pub fn names_on(records: &[u8], g: Geometry, c: usize) -> usize
     let mut j = 0;
     while j < s {
         let e = stripe_pages(records, g, c, j);
-        if e.main != 65535 {
+        if e.main != NONE {
             n += 1;
         }
-        if e.side != 65535 {
+        if e.side != NONE {
             n += 1;
         }
         j += 1;

@@ -2,14 +2,14 @@
 use Prim.Native.Nat.{ℕ, zero, suc, _+_, _*_, _≤_, _<_}
 use native.Mathlib.Numerals.{add-one}
 use native.Mathlib.Omega.{arith}
-use mathlib.Core.Path.{_≡_, refl, sym, ap, _∙_}
+use mathlib.Core.Path.{_≡_, refl, sym, ap₂, _∙_}
 use mathlib.Core.Logic.{_≢_}
 use mathlib.Core.Bool.{Bool, true, false, not, cond, _&&_, _||_, and-true, and-false, and-assoc, or-true, or-false}
 use mathlib.Core.List.{List}
 use lib.Dec.{eqb}
 use borrow.Author.Tests.{eq-eqb, ne-eqb}
 use Rattle.units.specs.Look.{allBelow, someBelow, countBelow, sumBelow}
-use Rattle.units.proofs.Looks.{both, by-same, all-true, all-at, all-cong, all-both}
+use Rattle.units.proofs.Looks.{by-same, all-true, all-at, all-cong, all-both}
 use Rattle.units.proofs.Counts.{count-le}
 use Rattle.units.proofs.Tests.{or-else}
 use Rattle.layout.specs.declared.Geometry.{Geometry}
@@ -36,13 +36,13 @@ use Rattle.names.proofs.Totals.{foundOn, taggedOrLost, namesKept, total-tags}
 -- the test of one chip in three: lost or not, tags, order, clean block, phase 1, phase 2, the collection's chip, and what the phases ask
 split : (lost t o k e f h p q : Bool)
     → lost || (t && o && cond ((e || f) && h) (cond e p q) k)
-    ≡ (lost || t) && ((lost || (o && (k || ((e || f) && h)))) && (lost || (not ((e || f) && h) || cond e p (cond f q true))))
+    ≡ (lost || t) && (lost || (o && (k || ((e || f) && h)))) && (lost || (not ((e || f) && h) || cond e p (cond f q true)))
 split true t o k e f h p q = refl
-split false t o k true f true p q = rw (or-true k, and-true o) (and-assoc t o p)
-split false t o k true f false p q = rw (or-false k, and-true (o && k)) (and-assoc t o k)
-split false t o k false true true p q = rw (or-true k, and-true o) (and-assoc t o q)
-split false t o k false true false p q = rw (or-false k, and-true (o && k)) (and-assoc t o k)
-split false t o k false false h p q = rw (or-false k, and-true (o && k)) (and-assoc t o k)
+split false t o k true f true p q = rw (or-true k, and-true o)
+split false t o k true f false p q = rw (or-false k, and-true (t && (o && k))) (and-assoc t o k)
+split false t o k false true true p q = rw (or-true k, and-true o)
+split false t o k false true false p q = rw (or-false k, and-true (t && (o && k))) (and-assoc t o k)
+split false t o k false false h p q = rw (or-false k, and-true (t && (o && k))) (and-assoc t o k)
 
 -- outside phases 1 and 2 the phases ask nothing
 idle : (lost e f p q : Bool) → lost || (not ((e || f) && true) || cond e p (cond f q true)) ≡ lost || cond e p (cond f q true)
@@ -82,18 +82,18 @@ module _ (l : Layout) (r : ℕ → Record) (y : ℕ → ℕ → Page) (co : Coll
 
   -- the verdict in three parts
   pub three-parts : co .chip ≤ N
-      → allBelow (N + 1) (taggedOrLost l r y lost) && (allBelow (N + 1) shapedOrLost && (eqb (co .chip) lost || phaseSound l r (y (co .chip)) co))
+      → allBelow (N + 1) (taggedOrLost l r y lost) && allBelow (N + 1) shapedOrLost && (eqb (co .chip) lost || phaseSound l r (y (co .chip)) co)
       ≡ sparesSound l r y co lost
   unfolding sparesSound chipSound
   three-parts low =
       let tagged = taggedOrLost l r y lost in
-      let parts : ℕ → Bool = λ c. tagged c && (shapedOrLost c && phasedOrLost c) in
+      let parts : ℕ → Bool = λ c. tagged c && shapedOrLost c && phasedOrLost c in
       let each : allBelow (N + 1) (soundOrLost l r y co lost) ≡ allBelow (N + 1) parts = all-cong (N + 1) (soundOrLost l r y co lost) parts (λ c _.
       split (eqb c lost) (allBelow (l .S) (taggedStripe l r (y c) c)) (allBelow B (orderedBlock l (y c))) (someBelow B (cleanBlock l (y c)))
       (eqb (co .phase) 1) (eqb (co .phase) 2) (eqb (co .chip) c) (phase1Sound l r c (co .destination)) (phase2Sound l r (y c) c (co .victim) (co .destination))) in
       sym (each
-      ∙ all-both (N + 1) tagged (λ c. shapedOrLost c && phasedOrLost c)
-      ∙ ap (λ (t : Bool). allBelow (N + 1) tagged && t) (all-both (N + 1) shapedOrLost phasedOrLost ∙ ap (λ (t : Bool). allBelow (N + 1) shapedOrLost && t) (one-phased low)))
+      ∙ all-both (N + 1) (λ c. tagged c && shapedOrLost c) phasedOrLost
+      ∙ ap₂ (λ s t. s && t) (all-both (N + 1) tagged shapedOrLost) (one-phased low))
 
   -- ---- the loop over the chips
 
@@ -167,7 +167,7 @@ module _ {g : Geometry} {records : List ℕ} {co : CollectionRecord} (pass : Rec
 
     -- the verdict as the code comes to it
     pub verdict : let l = layoutOf g in
-        eqb named kept && (shaped && (eqb (co .chip) lost || phaseSound l (recordAt l records) (pageAt l chips (co .chip)) (collectionAt l records)))
+        eqb named kept && shaped && (eqb (co .chip) lost || phaseSound l (recordAt l records) (pageAt l chips (co .chip)) (collectionAt l records))
         ≡ sparesSound l (recordAt l records) (pageAt l chips) (collectionAt l records) lost
     verdict =
         let l = layoutOf g in
@@ -186,14 +186,3 @@ module _ {g : Geometry} {records : List ℕ} {co : CollectionRecord} (pass : Rec
           tags = or-else (eqb (co .chip) lost) (allBelow (g .s) (taggedStripe l (recordAt l records) (pageAt l chips (co .chip)) (co .chip)))
               (all-at (g .n + 1) tagged (sym tags-test ∙ t) (co .chip) (omega arith)) (ne-eqb (co .chip) lost d);
         }
-
--- what the test of the names and of the shapes tells
-pub refused : (a b p : Bool) → not a || not b ≡ true → false ≡ a && (b && p)
-refused true true p e = both false e refl
-refused true false p e = refl
-refused false b p e = refl
-
-pub accepted : (a b : Bool) → not a || not b ≡ false → (a ≡ true) × (b ≡ true)
-accepted true true e = (refl, refl)
-accepted true false e = both true refl e
-accepted false b e = both true refl e

@@ -1,3 +1,4 @@
 pub mod Fetching
+pub mod Fields
 pub mod Judging
 pub mod Scanning

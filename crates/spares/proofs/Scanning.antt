@@ -20,9 +20,10 @@ use Rattle.rules.specs.Sound.{twin}
 use Rattle.codec.specs.declared.Spare.{Spare}
 use Rattle.codec.specs.Views.{spareOf}
 use Rattle.names.specs.Stamps.{stamped}
-use Rattle.units.proofs.Tallies.{ones, count-more, count-from}
+use Rattle.units.proofs.Tallies.{count-from}
 use Rattle.spares.specs.declared.Scan.{Scan}
-use Rattle.spares.specs.Scans.{stampedIn, blockScan, chipScan}
+use Rattle.spares.specs.declared.Shape.{Shape}
+use Rattle.spares.specs.Scans.{stampedIn, shapeOf, blockScan, chipScan}
 
 -- ---- page numbers
 
@@ -55,37 +56,42 @@ module _ (l : Layout) (x : ℕ → Page) (b : ℕ) where
   order-more zero = refl
   order-more (suc i) = let e : suc i - 1 ≡ i = omega arith in rw (add-one, e)
 
--- what the loop has found of its places below i; c is the chip
-pub record Scanned (l : Layout) (r : ℕ → Record) (x : ℕ → Page) (c b i : ℕ) (ordered clean : Bool) (named : ℕ) (used : Bool) : Type 0 where
+-- what the loop has found of its places below i
+pub record Shaped (l : Layout) (x : ℕ → Page) (b i : ℕ) (ordered clean used : Bool) : Type 0 where
   pub orders : ordered ≡ allBelow (i - 1) (inOrder l x b)
   pub cleans : clean ≡ allBelow i (cleanIn l x b)
-  pub names : named ≡ countBelow i (stampedIn l r x c b)
   pub uses : used ≡ usedBefore l x b i
 
-module _ {l : Layout} {r : ℕ → Record} {x : ℕ → Page} {c b : ℕ} where
+module _ {l : Layout} {x : ℕ → Page} {b : ℕ} where
   -- nothing before the first
-  pub scan-start : Scanned l r x c b 0 true true 0 true
-  unfolding allBelow countBelow
-  scan-start = record { orders = refl; cleans = refl; names = refl; uses = refl }
+  pub shape-start : Shaped l x b 0 true true true
+  unfolding allBelow
+  shape-start = record { orders = refl; cleans = refl; uses = refl }
 
-  module _ {i : ℕ} {ordered clean : Bool} {named : ℕ} {used : Bool} (h : Scanned l r x c b i ordered clean named used) where
+  module _ {i : ℕ} {ordered clean used : Bool} (h : Shaped l x b i ordered clean used) where
     -- with one place more, of which k is the kind
-    pub scan-more : {k named′ : ℕ} → k ≡ x (pageIn l b i) .kind → named′ ≡ named + ones (stampedIn l r x c b i)
-        → Scanned l r x c b (i + 1) (ordered && (used || eqb k 255)) (clean && eqb k 255) named′ (not (eqb k 255))
+    pub shape-more : {k : ℕ} → k ≡ x (pageIn l b i) .kind
+        → Shaped l x b (i + 1) (ordered && (used || eqb k 255)) (clean && eqb k 255) (not (eqb k 255))
     unfolding allBelow
-    scan-more e n =
+    shape-more e =
         let last : i + 1 - 1 ≡ i = omega arith in
         record {
           orders = rw (e, last, h .orders, h .uses) (order-more l x b i);
           cleans = rw (e, h .cleans, add-one);
-          names = rw (n, h .names, add-one) (sym (count-more i (stampedIn l r x c b)));
           uses = rw (e, add-one);
         }
 
-    -- at the end it is the scan of the block
-    pub scan-all : i ≡ l .K → record { ordered = ordered; clean = clean; named = named } ≡ blockScan l r x c b
-    unfolding blockScan orderedBlock cleanBlock
-    scan-all e = rw (h .orders, h .cleans, h .names, e)
+    -- at the end it is the shape of the block
+    pub shape-all : i ≡ l .K → record { ordered = ordered; clean = clean } ≡ shapeOf l x b
+    unfolding shapeOf orderedBlock cleanBlock
+    shape-all e = rw (h .orders, h .cleans, e)
+
+-- the shape and the number of names make the scan of the block
+pub block-scan : (l : Layout) (r : ℕ → Record) (x : ℕ → Page) (c b : ℕ) {s : Shape} {named : ℕ}
+    → s ≡ shapeOf l x b → named ≡ countBelow (l .K) (stampedIn l r x c b)
+    → record { ordered = s .ordered; clean = s .clean; named = named } ≡ blockScan l r x c b
+unfolding blockScan shapeOf
+block-scan l r x c b e n = rw (e, n)
 
 -- ---- chip c, with its pages x
 

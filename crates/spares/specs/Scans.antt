@@ -1,43 +1,76 @@
 -- What one pass over the spare bytes of a chip brings.
-use Prim.Native.Nat.{ℕ, _/_, _%_, _<_}
+use Prim.Native.Nat.{ℕ, _+_, _*_, _/_, _%_, _≤_, _<_}
 use mathlib.Core.Path.{_≡_}
-use mathlib.Core.Bool.{Bool, true, cond}
+use mathlib.Core.Bool.{Bool, true, not, cond, _&&_, _||_}
 use mathlib.Core.List.{List}
+use mathlib.Core.Logic.{_≢_}
 use lib.ListN.{getD}
-use lib.Dec.{eqb}
+use lib.Dec.{eqb, ltb}
+use Rattle.units.specs.Number.{number}
+use Rattle.units.specs.Units.{part}
 use Rattle.units.specs.Look.{allBelow, someBelow, countBelow}
 use Rattle.layout.specs.declared.Geometry.{Geometry}
 use Rattle.layout.specs.Layout.{Layout, layoutOf, pages, pageIn}
 use Rattle.layout.specs.Page.{Page}
 use Rattle.layout.specs.Record.{Record, recordAt}
 use Rattle.layout.specs.Collection.{Collection, collectionAt}
+use Rattle.layout.specs.Rotation.{parityChip, memberOn}
+use Rattle.rules.specs.Names.{kindOn, memberTag}
 use Rattle.rules.specs.Blocks.{cleanBlock, orderedBlock}
 use Rattle.rules.specs.Sound.{phase1Sound, phase2Sound, recordsSound}
 use Rattle.codec.specs.Fit.{RecordsFit}
 use Rattle.names.specs.Stamps.{stamped}
 use Rattle.spares.specs.declared.Scan.{Scan}
+use Rattle.spares.specs.declared.Shape.{Shape}
 
--- the number v has kind k, member m and stripe j in it
-pub record StampIs (v k m j : ℕ) : Type 0 where
-  pub kind : v % 256 ≡ k
-  pub member : v / 256 % 256 ≡ m
-  pub stripe : v / 65536 ≡ j
+-- the tag t is the kind k and behind it the member m
+pub record TagIs (t k m : ℕ) : Type 0 where
+  pub kind : t % 256 ≡ k
+  pub member : t / 256 ≡ m
+  pub small : t < 65536
 
--- the first n stamps are numbers of four bytes
-pub record Small (n : ℕ) (stamps : List ℕ) : Type 0 where
-  pub low : (i : ℕ) → i < n → getD stamps i 0 < 4294967296
+-- with the bytes of the records: the record of stripe j has page p in this field, or as the old page beside it
+unfoldable pub hasNumber : List ℕ → ℕ → ℕ → ℕ → Bool
+hasNumber records j field p =
+    not (eqb field 255)
+    && (eqb (number (part (j * 32 + field) 2 records)) p
+    || (not (eqb field 24) && eqb (number (part (j * 32 + field + 12) 2 records)) p))
 
 module _ (l : Layout) where
-  open Layout l using (K, B)
+  open Layout l using (K, B, S)
 
   -- place i of block b of chip c is named by the record that it is stamped for
   abbrev pub stampedIn : (ℕ → Record) → (ℕ → Page) → ℕ → ℕ → ℕ → Bool
   stampedIn r x c b i = stamped l r x c (pageIn l b i)
 
-  -- the stamps of the pages of block b
-  pub record StampsOf (x : ℕ → Page) (b : ℕ) (stamps : List ℕ) : Type 0 where
-    pub is : (i : ℕ) → i < K → StampIs (getD stamps i 0) (x (pageIn l b i) .kind) (x (pageIn l b i) .member) (x (pageIn l b i) .stripe)
-    pub small : Small K stamps
+  -- the tags and stripes of the pages of block b
+  pub record StampsOf (x : ℕ → Page) (b : ℕ) (tags stripes : List ℕ) : Type 0 where
+    pub tag : (i : ℕ) → i < K → TagIs (getD tags i 0) (x (pageIn l b i) .kind) (x (pageIn l b i) .member)
+    pub stripe : (i : ℕ) → i < K → getD stripes i 0 ≡ x (pageIn l b i) .stripe
+
+  -- the offset of chip c's page number, the main one, in the record of stripe j
+  unfoldable pub fieldOn : ℕ → ℕ → ℕ
+  fieldOn c j = cond (eqb c (parityChip l j)) 24 (2 * memberOn l j c)
+
+  -- the tag of that page
+  abbrev pub tagOn : ℕ → ℕ → ℕ
+  tagOn c j = kindOn l c j + 256 * memberTag l c j
+
+  -- the same offset for a page of chip c with a tag and stripe j; 255 where the tag is not right or there is no such stripe
+  unfoldable pub fieldOf : ℕ → ℕ → ℕ → ℕ
+  fieldOf c tag j = cond (eqb tag (tagOn c j) && ltb j S) (fieldOn c j) 255
+
+  -- of all pages of a block
+  pub record FieldsOf (c : ℕ) (tags stripes fields : List ℕ) : Type 0 where
+    pub is : (i : ℕ) → i < K → getD fields i 0 ≡ fieldOf c (getD tags i 0) (getD stripes i 0)
+
+  -- where there is a field, it is one of a record
+  pub record FieldsFit (stripes fields : List ℕ) : Type 0 where
+    pub inside : (i : ℕ) → i < K → getD fields i 0 ≢ 255 → (getD stripes i 0 < S) × (getD fields i 0 ≤ 24)
+
+  -- whether the used pages of block b come first, and whether there are none
+  unfoldable pub shapeOf : (ℕ → Page) → ℕ → Shape
+  shapeOf x b = record { ordered = orderedBlock l x b; clean = cleanBlock l x b }
 
   -- of block b
   unfoldable pub blockScan : (ℕ → Record) → (ℕ → Page) → ℕ → ℕ → Scan

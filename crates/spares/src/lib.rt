@@ -4,19 +4,18 @@ use codec::CollectionRecord;
 use codec::page_offset;
 use codec::spare_at;
 use layout::Geometry;
-use names::Stamp;
-use names::is_stamped;
 use names::named_at;
 use names::names_on;
 use slices::byte;
 use slices::number_at;
 ghost use mathlib.Core.Path.{_≡_};
-ghost use Prim.Native.Nat.{ℕ, _+_, _≤_, _<_};
+ghost use mathlib.Core.Bool.{true};
+ghost use mathlib.Core.List.{List};
+ghost use Prim.Native.Nat.{ℕ, _+_, _*_, _≤_, _<_};
+ghost use mathlib.Core.Logic.{_≢_};
 ghost use lib.ListN.{length, getD};
-ghost use Rattle.units.specs.Number.{number};
-ghost use Rattle.units.specs.Units.{part};
 ghost use Rattle.units.specs.Look.{countBelow};
-ghost use Rattle.layout.specs.Layout.{layoutOf, pages};
+ghost use Rattle.layout.specs.Layout.{layoutOf, limits, pages};
 ghost use Rattle.layout.specs.Page.{Page, pageAt};
 ghost use Rattle.layout.specs.Record.{recordAt};
 ghost use Rattle.layout.specs.Collection.{collectionAt};
@@ -24,7 +23,7 @@ ghost use Rattle.rules.specs.Sound.{phase1Sound, twinIn, phase2Sound, sparesSou
 ghost use Rattle.codec.specs.Fit.{ChipsFit, RecordsFit};
 ghost use Rattle.codec.specs.Views.{CollectionIs};
 ghost use Rattle.names.specs.Stamps.{namesIn, TagsPass};
-ghost use Rattle.spares.specs.Scans.{StampIs, Small, StampsOf, blockScan, chipScan, phaseSound, RecordsPass};
+ghost use Rattle.spares.specs.Scans.{TagIs, stampedIn, StampsOf, fieldOf, FieldsOf, FieldsFit, hasNumber, shapeOf, blockScan, chipScan, phaseSound, RecordsPass};
 
 // What a pass over the spares of a block or of a chip brings.
 pub struct Scan {
@@ -36,64 +35,179 @@ pub struct Scan {
     pub named: usize,
 }
 
-// The kind, member and stripe at offset a, as one number.
-fn stamp_at(chips: &[u8], a: usize) -> u32
-    requires { ⌜ a + 4 ≤ length (now chips) ⌝ }
-    ensures { λ r. ⌜ StampIs r (getD (now (chips .entry)) a 0) (getD (now (chips .entry)) (a + 1) 0) (number (part (a + 2) 2 (now (chips .entry)))) ⌝ }
-{
-    (byte(chips, a) + 256 * byte(chips, a + 1) + 65536 * number_at(chips, a + 2)) as u32
+// The tags of a parity page and of a page of member 0; each member more adds 256.
+const PARITY_TAG: u16 = 80;
+
+const DATA_TAG: u16 = 68;
+
+// The field of the parity page's number in a record, and what stands for no field.
+const PARITY_FIELD: u16 = 24;
+
+const NO_FIELD: u16 = 255;
+
+// Whether the used pages of a block come first, and whether there are none.
+struct Shape {
+    ordered: bool,
+    clean: bool,
 }
 
-// The stamps of the pages of block b of chip c. They are fetched before any is looked up in the records, so that no look
-// waits for the one before it.
-fn fetch_stamps(chips: &[u8], g: Geometry, c: usize, b: usize, stamps: &mut [u32; 128])
-    requires { ⌜ ChipsFit g (now chips) × (c ≤ g .n) × (b < g .b) × (length (now stamps) ≡ 128) ⌝ }
-    ensures { λ _. ⌜ StampsOf (layoutOf g) (pageAt (layoutOf g) (now (chips .entry)) c) b (now (stamps .exit)) ⌝ }
+// The kind at offset a, and the member behind it.
+fn tag_at(chips: &[u8], a: usize) -> u16
+    requires { ⌜ a + 2 ≤ length (now chips) ⌝ }
+    ensures { λ r. ⌜ TagIs r (getD (now (chips .entry)) a 0) (getD (now (chips .entry)) (a + 1) 0) ⌝ }
+{
+    (byte(chips, a) + 256 * byte(chips, a + 1)) as u16
+}
+
+// The tags and stripes of the pages of block b of chip c. They are fetched before any is looked up in the records, so that
+// no look waits for the one before it.
+fn fetch_stamps(
+    chips: &[u8],
+    g: Geometry,
+    c: usize,
+    b: usize,
+    tags: &mut [u16; 128],
+    stripes: &mut [u16; 128],
+)
+    requires { ⌜ ChipsFit g (now chips) × (c ≤ g .n) × (b < g .b) × (length (now tags) ≡ 128) × (length (now stripes) ≡ 128) ⌝ }
+    ensures { λ _. ⌜ StampsOf (layoutOf g) (pageAt (layoutOf g) (now (chips .entry)) c) b (now (tags .exit)) (now (stripes .exit)) ⌝ }
 {
     let k = g.k as usize;
     let w = g.w as usize;
     let first = page_offset(g, c, b * k) + w;
     let mut i = 0;
     while i < k {
-        stamps[i] = stamp_at(chips, first + i * (w + 8));
+        let a = first + i * (w + 8);
+        tags[i] = tag_at(chips, a);
+        stripes[i] = number_at(chips, a + 2) as u16;
         i += 1;
     }
 }
 
-// What the stamps of block b of chip c say, each looked up in the record of its stripe.
-fn look_up(records: &[u8], g: Geometry, c: usize, b: usize, stamps: &[u32; 128]) -> Scan
-    requires { ⌜ RecordsFit g (now records) × (c ≤ g .n) × (b < g .b) × Small (g .k) (now stamps) ⌝ }
-    ensures { λ r. ⌜ ((x : ℕ → Page) → StampsOf (layoutOf g) x b (now (stamps .entry))
-        → r ≡ blockScan (layoutOf g) (recordAt (layoutOf g) (now (records .entry))) x c b) ⌝ }
+// Where the record of stripe j has the number of the page of chip c with this tag; 255 where it has none such. The width of
+// a stripe is N + 1.
+fn field_of(g: Geometry, width: u16, c: u16, tag: u16, j: u16) -> u16
+    requires { ⌜ (limits (layoutOf g) ≡ true) × (width ≡ g .n + 1) × (c ≤ g .n) ⌝ }
+    ensures { λ r. ⌜ r ≡ fieldOf (layoutOf g) c tag j ⌝ }
+{
+    let s = g.s as u16;
+    let parity = width - 1 - j % width;
+    let m = if c <= parity { c } else { c - 1 };
+    let stamp = if c == parity {
+        PARITY_TAG
+    } else {
+        DATA_TAG + 256 * m
+    };
+    let field = if c == parity { PARITY_FIELD } else { 2 * m };
+    if (tag == stamp) & (j < s) {
+        field
+    } else {
+        NO_FIELD
+    }
+}
+
+// The fields of the pages of a block of chip c. Each call gives the width as a constant, for a remainder by a constant
+// takes no division.
+fn find_fields(
+    g: Geometry,
+    width: u16,
+    c: usize,
+    tags: &[u16; 128],
+    stripes: &[u16; 128],
+    fields: &mut [u16; 128],
+)
+    requires { ⌜ (limits (layoutOf g) ≡ true) × (width ≡ g .n + 1) × (c ≤ g .n) × (length (now fields) ≡ 128) ⌝ }
+    ensures { λ _. ⌜ FieldsOf (layoutOf g) c (now (tags .entry)) (now (stripes .entry)) (now (fields .exit)) ⌝ }
+{
+    let k = g.k as usize;
+    let chip = c as u16;
+    let mut i = 0;
+    while i < k {
+        fields[i] = field_of(g, width, chip, tags[i], stripes[i]);
+        i += 1;
+    }
+}
+
+fn fields_of(
+    g: Geometry,
+    c: usize,
+    tags: &[u16; 128],
+    stripes: &[u16; 128],
+    fields: &mut [u16; 128],
+)
+    requires { ⌜ (limits (layoutOf g) ≡ true) × (c ≤ g .n) × (length (now fields) ≡ 128) ⌝ }
+    ensures { λ _. ⌜ FieldsOf (layoutOf g) c (now (tags .entry)) (now (stripes .entry)) (now (fields .exit)) ⌝ }
+{
+    match g.n as usize {
+        2 => find_fields(g, 3, c, tags, stripes, fields),
+        3 => find_fields(g, 4, c, tags, stripes, fields),
+        4 => find_fields(g, 5, c, tags, stripes, fields),
+        5 => find_fields(g, 6, c, tags, stripes, fields),
+        _ => find_fields(g, 7, c, tags, stripes, fields),
+    }
+}
+
+// Whether the record of stripe j has page p in this field, or as the old page beside it; the parity has none beside it.
+fn has_number(records: &[u8], j: u16, field: u16, p: usize) -> bool
+    requires { ⌜ (field ≢ 255 → j * 32 + field + 14 ≤ length (now records)) ⌝ }
+    ensures { λ r. ⌜ r ≡ hasNumber (now (records .entry)) j field p ⌝ }
+{
+    if field == NO_FIELD {
+        return false;
+    }
+    let a = j as usize * 32 + field as usize;
+    if number_at(records, a) == p {
+        return true;
+    }
+    if field == PARITY_FIELD {
+        return false;
+    }
+    number_at(records, a + 12) == p
+}
+
+// How many pages of block b are named by the records of their stripes.
+fn count_named(
+    records: &[u8],
+    g: Geometry,
+    b: usize,
+    stripes: &[u16; 128],
+    fields: &[u16; 128],
+) -> usize
+    requires { ⌜ RecordsFit g (now records) × (b < g .b) × FieldsFit (layoutOf g) (now stripes) (now fields) ⌝ }
+    ensures { λ r. ⌜ ((x : ℕ → Page) (c : ℕ) (tags : List ℕ) → c ≤ g .n → StampsOf (layoutOf g) x b tags (now (stripes .entry)) → FieldsOf (layoutOf g) c tags (now (stripes .entry)) (now (fields .entry))
+        → r ≡ countBelow (g .k) (stampedIn (layoutOf g) (recordAt (layoutOf g) (now (records .entry))) x c b)) ⌝ }
 {
     let k = g.k as usize;
     let first = b * k;
+    let mut named: usize = 0;
+    let mut i = 0;
+    while i < k {
+        if has_number(records, stripes[i], fields[i], first + i) {
+            named += 1;
+        }
+        i += 1;
+    }
+    named
+}
+
+// Whether the used pages of a block come first, and whether there are none.
+fn shape_of(g: Geometry, tags: &[u16; 128]) -> Shape
+    requires { ⌜ limits (layoutOf g) ≡ true ⌝ }
+    ensures { λ r. ⌜ ((x : ℕ → Page) (b : ℕ) (stripes : List ℕ) → StampsOf (layoutOf g) x b (now (tags .entry)) stripes → r ≡ shapeOf (layoutOf g) x b) ⌝ }
+{
+    let k = g.k as usize;
     let mut ordered = true;
     let mut clean = true;
-    let mut named: usize = 0;
     let mut used_before = true;
     let mut i = 0;
     while i < k {
-        let v = stamps[i] as usize;
-        let t = Stamp {
-            kind: v % 256,
-            member: v / 256 % 256,
-            stripe: v / 65536,
-        };
-        let free = t.kind == 255;
+        let free = tags[i] % 256 == 255;
         ordered = ordered & (used_before | free);
         clean = clean & free;
-        if is_stamped(records, g, c, first + i, t) {
-            named += 1;
-        }
         used_before = !free;
         i += 1;
     }
-    Scan {
-        ordered,
-        clean,
-        named,
-    }
+    Shape { ordered, clean }
 }
 
 // One look at each page's spare of block b of chip c.
@@ -101,9 +215,18 @@ fn scan_block(chips: &[u8], records: &[u8], g: Geometry, c: usize, b: usize) -> 
     requires { ⌜ ChipsFit g (now chips) × RecordsFit g (now records) × (c ≤ g .n) × (b < g .b) ⌝ }
     ensures { λ r. ⌜ r ≡ blockScan (layoutOf g) (recordAt (layoutOf g) (now (records .entry))) (pageAt (layoutOf g) (now (chips .entry)) c) c b ⌝ }
 {
-    let mut stamps = [0u32; 128];
-    fetch_stamps(chips, g, c, b, &mut stamps);
-    look_up(records, g, c, b, &stamps)
+    let mut tags = [0u16; 128];
+    let mut stripes = [0u16; 128];
+    let mut fields = [0u16; 128];
+    fetch_stamps(chips, g, c, b, &mut tags, &mut stripes);
+    fields_of(g, c, &tags, &stripes, &mut fields);
+    let shape = shape_of(g, &tags);
+    let named = count_named(records, g, b, &stripes, &fields);
+    Scan {
+        ordered: shape.ordered,
+        clean: shape.clean,
+        named,
+    }
 }
 
 // One look at each page's spare of chip c.

@@ -64,9 +64,6 @@ buffers-fit g s e =
       slots = record { limited = low; long = n .2 };
     }
 
-bounded : (a b c d : ℕ) → a ≤ b → c ≤ d → a * c ≤ b * d
-bounded a b c d h k = mul-le-mul h k
-
 module _ (l : Layout) (s : Images) (lost : ℕ) where
   -- a refusal of rows 1 and 2 is that of the whole check
   pub images-first : (r : Refusal) → buffersCheck l s Passed ≡ Failed r → Failed r ≡ imagesCheck l s lost Passed
@@ -83,7 +80,7 @@ module _ (l : Layout) (s : Images) (lost : ℕ) where
 -- no list of a format is as long as the most that the code counts down from
 format-short : (l : Layout) → Within l → length (formatSteps l) ≤ 2 ^ 59
 format-short l w =
-    let blocks = bounded (l .N + 1) 7 (l .B) 1024 (omega (arith, w .members-high)) (w .blocks-high) in
+    let blocks : (l .N + 1) * l .B ≤ 7 * 1024 = mul-le-mul {n₂ = 7} {m₂ = 1024} (omega (arith, w .members-high)) (w .blocks-high) in
     omega (arith, format-length l, w .stripes-high)
 
 module _ (l : Layout) (s : Images) (a : ℕ) where

@@ -39,9 +39,6 @@ pub or-right : (a : Bool) {b : Bool} → b ≡ true → a || b ≡ true
 or-right true e = refl
 or-right false e = e
 
-pub or-true : (a : Bool) → a || true ≡ true
-or-true a = or-right a refl
-
 -- a disjunction as an implication
 pub or-else : (a b : Bool) → a || b ≡ true → a ≡ false → b ≡ true
 or-else true b e f = both true refl f
@@ -50,6 +47,19 @@ or-else false b e f = e
 pub or-by : (a b : Bool) → (a ≡ false → b ≡ true) → a || b ≡ true
 or-by true b h = refl
 or-by false b h = h refl
+
+-- a disjunction that fails
+pub neither : (a b : Bool) → a || b ≡ false → (a ≡ false) × (b ≡ false)
+neither true b e = both true refl e
+neither false b e = (refl, e)
+
+-- whether one of two tests fails
+pub one-fails : (a b : Bool) → not a || not b ≡ true → a && b ≡ false
+one-fails true b e = not-true b e
+one-fails false b e = refl
+
+pub none-fails : (a b : Bool) → not a || not b ≡ false → (a ≡ true) × (b ≡ true)
+none-fails a b e = let h = neither (not a) (not b) e in (not-false a (h .0), not-false b (h .1))
 
 pub under : (a b : Bool) → not a || b ≡ true → a ≡ true → b ≡ true
 under a b e t = or-else (not a) b e (rw t)

@@ -1,5 +1,7 @@
 -- The bytes that `low` and `high` give are the digits of the numbers; the two single bytes are below 256.
 use native.Mathlib.Nat.{mod-eq-of-lt}
+use mathlib.Core.List.{_∷_}
+use lib.ListN.{replicate}
 use borrow.Author.Needs.{needs}
 use Rattle.units.specs.Number.{digits}
 use Rattle.layout.specs.Collection.{bytesOfCollection}
@@ -28,7 +30,14 @@ returns : tie.Need-returns
 unfolding bytesOfCollection digits
 returns c g =
     let a = c .before .before .before .before .before .before in
-    cc (mod-eq-of-lt (a .pre .0), mod-eq-of-lt (a .pre .1))
+    rw (← mod-eq-of-lt (a .pre .0), ← mod-eq-of-lt (a .pre .1))
+    λ i. c .before .before .before .before .before .low .ensures i
+    ∷ c .before .before .before .before .low2 .ensures i
+    ∷ c .before .before .before .low3 .ensures i
+    ∷ c .before .before .high .ensures i
+    ∷ c .before .low4 .ensures i
+    ∷ c .high2 .ensures i
+    ∷ replicate 26 0
 
 pub collection-bytes-spec : {M : Type 1} → statement M
 collection-bytes-spec =

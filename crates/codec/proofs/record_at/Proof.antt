@@ -1,6 +1,10 @@
 -- Record j is 32 bytes at j * 32, so every read is inside the records, and what the calls give is what the record's own bytes hold.
+use Prim.Native.Nat.{_+_, _*_}
 use native.Mathlib.Omega.{arith}
+use mathlib.Core.Path.{ap}
+use Rattle.layout.specs.Layout.{layoutOf}
 use Rattle.layout.specs.Images.{recordsLength}
+use Rattle.codec.specs.Views.{recordFrom}
 use Rattle.codec.proofs.Encodings.{record-in}
 use Rattle.codec.proofs.record_at.Statement.{statement}
 use Rattle.codec.proofs.record_at.Tie as tie
@@ -71,7 +75,14 @@ returns : tie.Need-returns
 returns c =
     let a = c .before .before .before .before .before .before .before .before .args in
     let known = record-in (a .g) (a .records .now) (a .j) (c .before .before .before .before .before .before .before .before .pre .1) in (
-      rw (← known) (cc),
+      rw (← known) (ap (recordFrom (layoutOf (a .g))) (λ i. record {
+        current = c .before .before .before .before .before .before .six-at .ensures .0 i;
+        old = c .before .before .before .before .before .six-at2 .ensures .0 i;
+        parity = c .before .before .before .before .number-at .ensures .0 i;
+        bitmap = c .before .before .before .byte .ensures .0 i;
+        slot = c .before .before .byte2 .ensures .0 i;
+        rest = c .before .number-at2 .ensures .0 i + 65536 * c .number-at3 .ensures .0 i;
+      })),
       record {
         current = c .before .before .before .before .before .before .six-at .ensures .1;
         old = c .before .before .before .before .before .six-at2 .ensures .1;

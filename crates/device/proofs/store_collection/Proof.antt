@@ -1,20 +1,10 @@
--- The bytes of the collection record become the last record; the images are then those after the store.
-use native.Mathlib.Omega.{arith}
+-- The bytes of the collection record become the last record, which is what the store makes of the images.
+use mathlib.Core.Path.{refl}
 use borrow.Author.Needs.{needs}
-use Rattle.layout.specs.Layout.{layoutOf}
-use Rattle.stores.specs.Store.{apply}
-use Rattle.stores.proofs.Allowances.{ran-stop, ran-one}
+use Rattle.stores.specs.Store.{collection, apply}
+use Rattle.codec.specs.Views.{collectionFrom}
 use Rattle.device.proofs.store_collection.Statement.{statement}
 use Rattle.device.proofs.store_collection.Tie as tie
-
-stop-requires : tie.Need-stop-requires
-stop-requires c κs = search needs
-
-returns : tie.Need-returns
-returns c cs zs =
-    let start = c .before .before .before .before in
-    rw (c .stop .ensures)
-    (ran-stop (layoutOf (start .args .g)) (start .args .p) _ _ (start .pre .3) (c .before .if1 .taken))
 
 collection-bytes-requires : tie.Need-collection-bytes-requires
 collection-bytes-requires c κs = search needs
@@ -25,29 +15,22 @@ slice-aggregate-store-bytes c = search needs
 store-bytes-requires : tie.Need-store-bytes-requires
 store-bytes-requires c κs = search needs
 
-count-requires : tie.Need-count-requires
-count-requires c κs = search needs
-
 same-length : tie.Need-same-length
 same-length c = search needs
 
-returns-2 : tie.Need-returns-2
+returns : tie.Need-returns
 unfolding apply
-returns-2 c cs zs =
-    let start = c .before .before .before .before .before .before .before .before .before .before in
-    rw (c .count .ensures)
-    (ran-one (layoutOf (start .args .g)) (start .args .p) _ _ _ (start .pre .3) (omega arith) (omega arith)
-    (rw (c .before .before .before .store-bytes .ensures, c .before .before .before .before .before .before .collection-bytes .ensures (start .args .g))))
+returns c cs zs =
+    let a = c .before .before .before .before .before .before .before .args in
+    c .before .before .store-bytes .ensures (collection (collectionFrom (a .co))) cs zs refl refl
+    (rw (c .before .before .before .before .before .collection-bytes .ensures (a .g)))
 
 pub store-collection-spec : {M : Type 1} → statement M
 store-collection-spec =
     tie.close
     (tie.spec
-    stop-requires
-    returns
     collection-bytes-requires
     slice-aggregate-store-bytes
     store-bytes-requires
-    count-requires
     same-length
-    returns-2)
+    returns)

@@ -1,20 +1,11 @@
--- The bytes of the record become record j; the images are then those after the store.
-use native.Mathlib.Omega.{arith}
+-- The bytes of the record become record j, which is what the store makes of the images.
+use mathlib.Core.Path.{refl}
 use borrow.Author.Needs.{needs}
 use Rattle.layout.specs.Layout.{layoutOf}
-use Rattle.stores.specs.Store.{apply}
-use Rattle.stores.proofs.Allowances.{ran-stop, ran-one}
+use Rattle.stores.specs.Store.{stripe, apply}
+use Rattle.codec.specs.Views.{recordFrom}
 use Rattle.device.proofs.store_record.Statement.{statement}
 use Rattle.device.proofs.store_record.Tie as tie
-
-stop-requires : tie.Need-stop-requires
-stop-requires c κs = search needs
-
-returns : tie.Need-returns
-returns c cs zs =
-    let start = c .before .before .before .before in
-    rw (c .stop .ensures)
-    (ran-stop (layoutOf (start .args .g)) (start .args .p) _ _ (start .pre .3) (c .before .if1 .taken))
 
 record-bytes-requires : tie.Need-record-bytes-requires
 record-bytes-requires c κs = search needs
@@ -25,29 +16,22 @@ slice-aggregate-store-bytes c = search needs
 store-bytes-requires : tie.Need-store-bytes-requires
 store-bytes-requires c κs = search needs
 
-count-requires : tie.Need-count-requires
-count-requires c κs = search needs
-
 same-length : tie.Need-same-length
 same-length c = search needs
 
-returns-2 : tie.Need-returns-2
+returns : tie.Need-returns
 unfolding apply
-returns-2 c cs zs =
-    let start = c .before .before .before .before .before .before .before .before .before .before in
-    rw (c .count .ensures)
-    (ran-one (layoutOf (start .args .g)) (start .args .p) _ _ _ (start .pre .3) (omega arith) (omega arith)
-    (rw (c .before .before .before .store-bytes .ensures, c .before .before .before .before .before .before .record-bytes .ensures (start .args .g))))
+returns c cs zs =
+    let a = c .before .before .before .before .before .before .before .args in
+    c .before .before .store-bytes .ensures (stripe (a .j) (recordFrom (layoutOf (a .g)) (a .e))) cs zs refl refl
+    (rw (c .before .before .before .before .before .record-bytes .ensures (a .g)))
 
 pub store-record-spec : {M : Type 1} → statement M
 store-record-spec =
     tie.close
     (tie.spec
-    stop-requires
-    returns
     record-bytes-requires
     slice-aggregate-store-bytes
     store-bytes-requires
-    count-requires
     same-length
-    returns-2)
+    returns)

@@ -1,76 +1,22 @@
--- After i turns the first i numbers are those of the definition, and the rest are none.
-use Prim.Native.Nat.{_-_}
-use native.Mathlib.Omega.{arith}
-use mathlib.Core.Logic.{⊎-elim}
-use lib.ListN.{getD}
-use Rattle.layout.specs.declared.Geometry.{Geometry}
-use Rattle.layout.specs.Layout.{layoutOf}
-use Rattle.rules.specs.Read.{othersInside}
-use Rattle.codec.specs.Views.{recordFrom}
-use Rattle.gather.proofs.Others.{inside-at, inside-beyond}
-use Rattle.gather.proofs.Pages.{Filled, filled-none, filled-more, filled-skip, filled-all}
+-- Inside the bitmap the current numbers are chosen, without that of member m, and else none.
+use borrow.Author.Needs.{needs}
+use Rattle.gather.proofs.Others.{inside-chosen}
 use Rattle.gather.proofs.others_inside.Statement.{statement}
 use Rattle.gather.proofs.others_inside.Tie as tie
 
-abbrev Inv-loop : tie.InvT-loop
-Inv-loop m e numbers₀ i₀ numbers i = (g : Geometry) → Filled (othersInside (layoutOf g) m (recordFrom (layoutOf g) e)) i numbers
+mul-current : tie.Need-mul-current
+mul-current c = search needs
 
-abbrev μ-loop : tie.MeasureT-loop
-μ-loop m e numbers₀ i₀ numbers i = 6 - i
+array-write-current : tie.Need-array-write-current
+array-write-current c = search needs
 
-loop-holds : tie.Need-loop-holds Inv-loop μ-loop
-loop-holds c g = filled-none (othersInside (layoutOf g) (c .args .m) (recordFrom (layoutOf g) (c .args .t1)))
+chosen-requires : tie.Need-chosen-requires
+chosen-requires c κs = search needs
 
-bit-of-requires : tie.Need-bit-of-requires Inv-loop μ-loop
-bit-of-requires c κs = omega arith
-
-mul-numbers : tie.Need-mul-numbers Inv-loop μ-loop
-mul-numbers c = omega arith
-
-element-copy-out-numbers : tie.Need-element-copy-out-numbers Inv-loop μ-loop
-element-copy-out-numbers c = omega arith
-
-mul-numbers-2 : tie.Need-mul-numbers-2 Inv-loop μ-loop
-mul-numbers-2 c = omega arith
-
-array-write-numbers : tie.Need-array-write-numbers Inv-loop μ-loop
-array-write-numbers c = omega arith
-
-add-i : tie.Need-add-i Inv-loop μ-loop
-add-i c = omega arith
-
-loop-less : tie.Need-loop-less Inv-loop μ-loop
-loop-less c = omega arith
-
-loop-again : tie.Need-loop-again Inv-loop μ-loop
-loop-again c g =
-    let a = c .before .before .before .before .args in
-    let i = c .before .before .before .loop .i in
-    let s = c .before .before .before .loop .inv g in
-    let h = c .before .before .loop-test .taken in
-    let known = c .before .bit-of .ensures in
-    let next = inside-at g (a .t1) (a .m) i h in
-    ⊎-elim
-    (λ w. rw (w .2) (filled-more s (getD (a .t1 .current) i 0) h (rw (next, ← known, w .0 .taken))))
-    (λ w. rw (w .1) (filled-skip s h (rw (next, ← known, w .0 .left))))
-    (c .if1 .came)
-
-returns : tie.Need-returns Inv-loop μ-loop
-returns c g = filled-all (c .before .loop .inv g) (c .loop-test .left) g (inside-beyond g (c .before .before .args .t1) (c .before .before .args .m))
+returns : tie.Need-returns
+returns c g =
+    let s = c .before .before in
+    inside-chosen g (s .args .e) (s .args .m) (search needs) (s .pre) (c .chosen .result) (c .chosen .ensures g)
 
 pub others-inside-spec : {M : Type 1} → statement M
-others-inside-spec =
-    tie.close
-    (tie.spec
-    Inv-loop
-    μ-loop
-    loop-holds
-    bit-of-requires
-    mul-numbers
-    element-copy-out-numbers
-    mul-numbers-2
-    array-write-numbers
-    add-i
-    loop-less
-    loop-again
-    returns)
+others-inside-spec = tie.close (tie.spec mul-current array-write-current chosen-requires returns)

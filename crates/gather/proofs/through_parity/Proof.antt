@@ -1,4 +1,5 @@
 -- Into zeros the parity page is XORed, and into that the pages that it was stored over. A sound record's numbers are those of pages.
+use native.Mathlib.Omega.{arith}
 use mathlib.Core.Path.{_≡_}
 use lib.ListN.{length-replicate}
 use borrow.Author.Needs.{needs}
@@ -28,7 +29,7 @@ xor-into-requires : tie.Need-xor-into-requires
 xor-into-requires c κs = rw (c .before .before .before .before .before .pre .1, length-replicate) (c .page-data .ensures .1)
 
 others-under-parity-requires : tie.Need-others-under-parity-requires
-others-under-parity-requires c κs = search needs
+others-under-parity-requires c κs = let s = c .before .before .before .before .before .before .before .before .before in omega (arith, s .pre .2, within (layoutOf (s .args .g)) (s .pre .0 .limited) .members-high)
 
 -- the call of page_data, and what the function was called with
 abbrev page : tie.After-others-under-parity → tie.After-page-data
@@ -52,7 +53,7 @@ gather-requires c κs =
     let others = c .others-under-parity in (
       s .pre .0,
       rw (first c) (page c .page-data .ensures .1),
-      under-fit g r (record-sound l r (s .pre .3)) (w .members-high) (s .args .m) (others .result) (others .ensures g),
+      under-fit g w r (record-sound l r (s .pre .3)) (s .args .m) (others .result) (others .ensures g),
     )
 
 add-result : tie.Need-add-result

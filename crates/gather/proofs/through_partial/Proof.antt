@@ -1,4 +1,5 @@
 -- Into zeros the slot is XORed, and into that the other pages of the bitmap. A record with a bit has a slot, and its numbers are those of pages.
+use native.Mathlib.Omega.{arith}
 use mathlib.Core.Path.{_≡_}
 use lib.ListN.{length-replicate}
 use borrow.Author.Needs.{needs}
@@ -24,7 +25,7 @@ xor-into-requires : tie.Need-xor-into-requires
 xor-into-requires c κs = rw (c .before .before .before .before .before .pre .2, length-replicate) (c .slot-data .ensures .1)
 
 others-inside-requires : tie.Need-others-inside-requires
-others-inside-requires c κs = search needs
+others-inside-requires c κs = let s = c .before .before .before .before .before .before .before .before .before in omega (arith, s .pre .3, within (layoutOf (s .args .g)) (s .pre .0 .limited) .members-high)
 
 -- the call of slot_data, and what the function was called with
 abbrev slot : tie.After-others-inside → tie.After-slot-data
@@ -48,7 +49,7 @@ gather-requires c κs =
     let others = c .others-inside in (
       s .pre .0,
       rw (first c) (slot c .slot-data .ensures .1),
-      inside-fit g r (record-sound l r (s .pre .4)) (w .members-high) (s .args .m) (others .result) (others .ensures g),
+      inside-fit g w r (record-sound l r (s .pre .4)) (s .args .m) (others .result) (others .ensures g),
     )
 
 same-length : tie.Need-same-length

@@ -1,12 +1,12 @@
 -- A stamp of no stripe is no name; else the tests are those of the definition, with what the record says of the chip.
-use mathlib.Core.Path.{sym, _∙_}
+use mathlib.Core.Path.{sym}
 use borrow.Author.Needs.{needs}
 use borrow.Author.Tests.{eq-eqb, ne-eqb}
 use lib.Dec.{eqb}
-use mathlib.Core.Bool.{_||_}
+use Rattle.units.proofs.Tests.{one-fails, none-fails}
 use Rattle.layout.specs.Layout.{layoutOf}
 use Rattle.layout.specs.Record.{recordAt}
-use Rattle.names.proofs.Readings.{stamp-beyond, stamp-test, wrong-tag, right-tag}
+use Rattle.names.proofs.Readings.{stamp-beyond, stamp-test}
 use Rattle.names.proofs.is_stamped.Statement.{statement}
 use Rattle.names.proofs.is_stamped.Tie as tie
 
@@ -25,7 +25,7 @@ returns-2 c x e =
     let l = layoutOf (a .g) in
     let q = c .before .before .before .before .before .stripe-pages .result in
     let is = stamp-test l (recordAt l (a .records .now)) x (a .c) (a .p) (a .t) e q (c .before .before .before .before .before .before .if1 .left) (c .before .before .before .before .before .stripe-pages .ensures) in
-    sym (wrong-tag (eqb (a .t .kind) (q .kind)) (eqb (a .t .member) (q .member)) (eqb (q .main) (a .p) || eqb (q .side) (a .p)) (c .if2 .taken)) ∙ is
+    rw (one-fails (eqb (a .t .kind) (q .kind)) (eqb (a .t .member) (q .member)) (c .if2 .taken)) at is
 
 returns-3 : tie.Need-returns-3
 returns-3 c x e =
@@ -33,8 +33,8 @@ returns-3 c x e =
     let l = layoutOf (a .g) in
     let q = c .before .before .before .before .before .before .before .stripe-pages .result in
     let is = stamp-test l (recordAt l (a .records .now)) x (a .c) (a .p) (a .t) e q (c .before .before .before .before .before .before .before .before .if1 .left) (c .before .before .before .before .before .before .before .stripe-pages .ensures) in
-    let named = sym (right-tag (eqb (a .t .kind) (q .kind)) (eqb (a .t .member) (q .member)) (eqb (q .main) (a .p) || eqb (q .side) (a .p)) (c .before .before .if2 .left)) ∙ is in
-    rw (eq-eqb (q .main) (a .p) (c .if3 .taken)) at named
+    let tags = none-fails (eqb (a .t .kind) (q .kind)) (eqb (a .t .member) (q .member)) (c .before .before .if2 .left) in
+    rw (tags .0, tags .1, eq-eqb (q .main) (a .p) (c .if3 .taken)) at is
 
 returns-4 : tie.Need-returns-4
 returns-4 c x e =
@@ -42,8 +42,8 @@ returns-4 c x e =
     let l = layoutOf (a .g) in
     let q = c .before .before .before .before .before .before .before .before .stripe-pages .result in
     let is = stamp-test l (recordAt l (a .records .now)) x (a .c) (a .p) (a .t) e q (c .before .before .before .before .before .before .before .before .before .if1 .left) (c .before .before .before .before .before .before .before .before .stripe-pages .ensures) in
-    let named = sym (right-tag (eqb (a .t .kind) (q .kind)) (eqb (a .t .member) (q .member)) (eqb (q .main) (a .p) || eqb (q .side) (a .p)) (c .before .before .before .if2 .left)) ∙ is in
-    rw (ne-eqb (q .main) (a .p) (c .before .if3 .left)) at named
+    let tags = none-fails (eqb (a .t .kind) (q .kind)) (eqb (a .t .member) (q .member)) (c .before .before .before .if2 .left) in
+    rw (tags .0, tags .1, ne-eqb (q .main) (a .p) (c .before .if3 .left)) at is
 
 pub is-stamped-spec : {M : Type 1} → statement M
 is-stamped-spec = tie.close (tie.spec returns stripe-pages-requires returns-2 returns-3 returns-4)

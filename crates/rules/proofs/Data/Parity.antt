@@ -139,12 +139,12 @@ module _ (l : Layout) (w : Within l) (r : Record) (f : RecordSound l r) where
   unfolding oldInside
   numbered-old m h = numbered-cond l (bit r m) (r .old m) (none l) (sound-member l w r f m h .old) (numbered-none l)
 
-  numbered-others-inside : (m k : ℕ) → k < N → Numbered l (othersInside l m r k)
+  pub numbered-others-inside : (m k : ℕ) → k < N → Numbered l (othersInside l m r k)
   unfolding othersInside
   numbered-others-inside m k h =
       numbered-cond l (bit r k && not (eqb k m)) (r .current k) (none l) (sound-member l w r f k h .current) (numbered-none l)
 
-  numbered-others-under-parity : (m k : ℕ) → k < N → Numbered l (othersUnderParity l m r k)
+  pub numbered-others-under-parity : (m k : ℕ) → k < N → Numbered l (othersUnderParity l m r k)
   unfolding othersUnderParity
   numbered-others-under-parity m k h =
       numbered-cond l (bit r k) (r .old k) (cond (eqb k m) (none l) (r .current k)) (sound-member l w r f k h .old)

@@ -1,22 +1,41 @@
--- The stamps that are fetched are those of the block's pages, and they are looked up.
+-- The tags and stripes that are fetched are those of the block's pages; the shape and the names are counted from them.
 use mathlib.Core.Path.{refl}
+use borrow.Author.Needs.{needs}
 use Rattle.layout.specs.Layout.{layoutOf}
 use Rattle.layout.specs.Page.{pageAt}
+use Rattle.layout.specs.Record.{recordAt}
+use Rattle.spares.proofs.Scanning.{block-scan}
+use Rattle.spares.proofs.Fields.{fields-fit}
 use Rattle.spares.proofs.scan_block.Statement.{statement}
 use Rattle.spares.proofs.scan_block.Tie as tie
 
 fetch-stamps-requires : tie.Need-fetch-stamps-requires
-fetch-stamps-requires c κs = let h = c .before .before .before .pre in (h .0, h .2, h .3, refl)
+fetch-stamps-requires c κs = search needs
 
-look-up-requires : tie.Need-look-up-requires
-look-up-requires c κs = let h = c .before .before .before .before .before .pre in (h .1, h .2, h .3, c .before .fetch-stamps .ensures .small)
+fields-of-requires : tie.Need-fields-of-requires
+fields-of-requires c κs = let h = c .before .before .before .before .before .before .before .before .pre in (h .0 .limited, h .2, refl)
+
+shape-of-requires : tie.Need-shape-of-requires
+shape-of-requires c κs = search needs
+
+count-named-requires : tie.Need-count-named-requires
+count-named-requires c κs =
+    let s = c .before .before .before .before .before .before .before .before .before .before .before .before .before in
+    let fit = fields-fit (s .args .g) (s .args .c) (s .pre .0 .limited) (s .pre .2) (c .before .before .before .before .fields-of .ensures) in
+    (s .pre .1, s .pre .3, fit)
 
 returns : tie.Need-returns
 returns c =
-    let a = c .before .before .before .before .before .before .args in
-    let x = pageAt (layoutOf (a .g)) (a .chips .now) (a .c) in
-    let f = c .before .before .fetch-stamps .ensures in
-    c .look-up .ensures x f
+    let s = c .before .before .before .before .before .before .before .before .before .before .before .before .before .before in
+    let a = s .args in
+    let l = layoutOf (a .g) in
+    let x = pageAt l (a .chips .now) (a .c) in
+    let stamps = c .before .before .before .before .before .before .before .before .before .fetch-stamps .ensures in
+    let fields = c .before .before .before .before .before .fields-of .ensures in
+    block-scan l (recordAt l (a .records .now)) x (a .c) (a .b)
+    (c .before .before .before .shape-of .ensures x (a .b) _ stamps)
+    (c .count-named .ensures x (a .c) _ (s .pre .2) stamps fields)
 
 pub scan-block-spec : {M : Type 1} → statement M
-scan-block-spec = tie.close (tie.spec fetch-stamps-requires look-up-requires returns)
+scan-block-spec =
+    tie.close (tie.spec fetch-stamps-requires fields-of-requires shape-of-requires count-named-requires returns)

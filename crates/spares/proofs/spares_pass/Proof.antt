@@ -7,6 +7,7 @@ use mathlib.Core.Logic.{⊎-elim}
 use mathlib.Core.Bool.{Bool, true, _&&_, _||_}
 use lib.Dec.{eqb}
 use borrow.Author.Tests.{eq-eqb, ne-eqb, le-leb, lt-leb}
+use Rattle.units.proofs.Tests.{one-fails, none-fails}
 use Rattle.layout.specs.Layout.{layoutOf}
 use Rattle.layout.specs.Page.{pageAt}
 use Rattle.layout.specs.Record.{recordAt}
@@ -16,7 +17,7 @@ use Rattle.rules.specs.Sound.{sparesSound}
 use Rattle.spares.specs.Scans.{phaseSound}
 use Rattle.names.proofs.Totals.{namesKept, names-le}
 use Rattle.spares.proofs.Scanning.{start-low}
-use Rattle.spares.proofs.Judging.{Judged, judge-start, judge-more, judge-lost, judge-few, statements, verdict, tags-pass, refused, accepted}
+use Rattle.spares.proofs.Judging.{Judged, judge-start, judge-more, judge-lost, judge-few, statements, verdict, tags-pass}
 use Rattle.spares.proofs.spares_pass.Statement.{statement}
 use Rattle.spares.proofs.spares_pass.Tie as tie
 
@@ -55,7 +56,7 @@ collected c =
 judgement : (c : tie.After-loop Inv-loop μ-loop)
     → let a = c .before .before .before .before .before .before .before .args in
     let l = layoutOf (a .g) in
-    eqb (c .before .loop .named) (c .before .before .if1 .kept) && (c .before .loop .shaped && collected c)
+    eqb (c .before .loop .named) (c .before .before .if1 .kept) && c .before .loop .shaped && collected c
     ≡ sparesSound l (recordAt l (a .records .now)) (pageAt l (a .chips .now)) (collectionAt l (a .records .now)) (a .lost)
 judgement c =
     let s = c .before .before .before .before .before .before .before in
@@ -64,7 +65,7 @@ judgement c =
 -- after the first answer the names are as many as are kept, and every chip has its shape
 passed : (c : tie.Else3 Inv-loop μ-loop)
     → (eqb (c .before .before .loop .named) (c .before .before .before .if1 .kept) ≡ true) × (c .before .before .loop .shaped ≡ true)
-passed c = accepted (eqb (c .before .before .loop .named) (c .before .before .before .if1 .kept)) (c .before .before .loop .shaped) (c .if3 .left)
+passed c = none-fails (eqb (c .before .before .loop .named) (c .before .before .before .if1 .kept)) (c .before .before .loop .shaped) (c .if3 .left)
 
 names-on-requires : tie.Need-names-on-requires Inv-loop μ-loop
 names-on-requires c κs = (c .before .before .before .before .before .pre .1 .fit, c .if1 .taken)
@@ -115,7 +116,7 @@ loop-again c =
 returns : tie.Need-returns Inv-loop μ-loop
 returns c =
     let o = c .before .before .loop in
-    refused (eqb (o .named) (c .before .before .before .if1 .kept)) (o .shaped) (collected (c .before)) (c .if3 .taken) ∙ judgement (c .before)
+    rw (one-fails (eqb (o .named) (c .before .before .before .if1 .kept)) (o .shaped) (c .if3 .taken)) at (judgement (c .before))
 
 returns-2 : tie.Need-returns-2 Inv-loop μ-loop
 returns-2 c =

@@ -1,0 +1,145 @@
+-- Where the record of a stripe has the number of a page, found from the page's tag; and the test of the page by that number.
+use Prim.Native.Nat.{ℕ, _+_, _-_, _*_, _≤_, _<_}
+use native.Mathlib.Omega.{arith}
+use mathlib.Core.Path.{_≡_, refl, sym, ap}
+use mathlib.Core.Logic.{_≢_}
+use mathlib.Core.Bool.{Bool, true, false, _&&_, and-true, and-false}
+use mathlib.Core.List.{List}
+use lib.ListN.{getD}
+use lib.Dec.{eqb, ltb}
+use borrow.Author.Tests.{eq-eqb, ne-eqb, eqb-true, ltb-true, lt-ltb, le-ltb}
+use Rattle.units.proofs.Looks.{by-test, by-same, by-order}
+use Rattle.units.proofs.Tests.{and-both, both-and}
+use Rattle.units.proofs.Tallies.{same-tests}
+use Rattle.layout.specs.declared.Geometry.{Geometry}
+use Rattle.layout.specs.Layout.{Layout, layoutOf, limits}
+use Rattle.layout.specs.Rotation.{parityChip, memberOn}
+use Rattle.layout.specs.Page.{Page}
+use Rattle.layout.specs.Record.{recordAt}
+use Rattle.layout.proofs.Limits.{within}
+use Rattle.rules.specs.Names.{kindOn, memberTag, names}
+use Rattle.names.specs.declared.StripePages.{StripePages}
+use Rattle.names.specs.Stamps.{stamped, pagesOn}
+use Rattle.names.proofs.Readings.{parity-pages, member-pages}
+use Rattle.spares.specs.Scans.{TagIs, hasNumber, tagOn, fieldOn, fieldOf, FieldsOf, FieldsFit}
+
+-- ---- the tag and the field of chip c's page of stripe j
+
+module _ (l : Layout) (c j : ℕ) where
+  -- on the chip of the parity
+  pub parity-field : c ≡ parityChip l j → (80 ≡ tagOn l c j) × (24 ≡ fieldOn l c j)
+  unfolding fieldOn kindOn memberTag
+  parity-field e = rw (eq-eqb c (parityChip l j) e) (refl, refl)
+
+  -- on that of member m
+  pub member-field : (m : ℕ) → c ≢ parityChip l j → m ≡ memberOn l j c → (68 + 256 * m ≡ tagOn l c j) × (2 * m ≡ fieldOn l c j)
+  unfolding fieldOn kindOn memberTag
+  member-field m d e = rw (ne-eqb c (parityChip l j) d, ← e) (refl, refl)
+
+  kind-low : kindOn l c j < 256
+  unfolding kindOn
+  kind-low = by-test (eqb c (parityChip l j)) (λ e. rw e (omega arith)) (λ e. rw e (omega arith))
+
+  -- a chip has one of six members
+  member-low : c ≤ l .N → l .N ≤ 6 → c ≢ parityChip l j → memberOn l j c < 6
+  unfolding memberOn parityChip
+  member-low low few d = by-order c (parityChip l j) (λ h. rw (lt-ltb c (parityChip l j) h) (omega arith)) (λ h. rw (le-ltb c (parityChip l j) h) (omega arith))
+
+-- ---- a page of chip c with tag t and stripe j
+
+module _ (l : Layout) (c t j : ℕ) where
+  open Layout l using (N, S)
+
+  -- where the tag is not right or there is no such stripe
+  pub no-field : eqb t (tagOn l c j) && ltb j S ≡ false → 255 ≡ fieldOf l c t j
+  unfolding fieldOf
+  no-field e = rw e
+
+  -- where it is
+  pub own-field : eqb t (tagOn l c j) && ltb j S ≡ true → fieldOn l c j ≡ fieldOf l c t j
+  unfolding fieldOf
+  own-field e = rw e
+
+  -- a field is one of a record
+  module _ (low : c ≤ N) (few : N ≤ 6) where
+    on-low : fieldOn l c j ≤ 24
+    unfolding fieldOn memberOn
+    on-low = by-test (eqb c (parityChip l j)) (λ e. rw e (omega arith)) (λ e. rw e (by-test (ltb c (parityChip l j)) (λ f. rw f (omega arith)) (λ f. rw f (omega arith))))
+
+    pub field-inside : fieldOf l c t j ≢ 255 → (j < S) × (fieldOf l c t j ≤ 24)
+    field-inside d = by-test (eqb t (tagOn l c j) && ltb j S)
+        (λ e.
+        let (right, stripe) = and-both (eqb t (tagOn l c j)) (ltb j S) e in
+        (ltb-true j S stripe, rw (← own-field e) on-low))
+        (λ e. absurd (d (sym (no-field e))))
+
+-- ---- the test of a page by its field
+
+-- a tag is right exactly if its kind and its member are
+tag-test : {t k m : ℕ} (kind member : ℕ) → kind < 256 → TagIs t k m → eqb t (kind + 256 * member) ≡ eqb k kind && eqb m member
+tag-test {t} {k} {m} kind member low is =
+    let rest = is .kind in
+    let over = is .member in
+    same-tests (eqb t (kind + 256 * member)) (eqb k kind && eqb m member)
+    (λ e. let same = eqb-true t (kind + 256 * member) e in both-and (eq-eqb k kind (omega arith)) (eq-eqb m member (omega arith)))
+    (λ e.
+    let (a, b) = and-both (eqb k kind) (eqb m member) e in
+    let same = eqb-true k kind a in
+    let too = eqb-true m member b in
+    eq-eqb t (kind + 256 * member) (omega arith))
+
+-- the tests of a stamp in the order of its definition, and with the tag as one
+tests-in-order : (s k m n : Bool) → s && (true && k && m && n) ≡ (k && m && s) && n
+tests-in-order true k m n = rw and-true
+tests-in-order false k m n = rw and-false
+
+-- page p of chip c, with tag t and stripe j
+module _ (g : Geometry) (xs : List ℕ) (x : ℕ → Page) (c p t j : ℕ) (limited : limits (layoutOf g) ≡ true) (chip : c ≤ g .n) (page : p < 65535)
+    (is : TagIs t (x p .kind) (x p .member)) (stripe : j ≡ x p .stripe) where
+  -- the test of the stamp
+  stamp-is : stamped (layoutOf g) (recordAt (layoutOf g) xs) x c p
+      ≡ (eqb t (tagOn (layoutOf g) c j) && ltb j (g .s)) && names (layoutOf g) (recordAt (layoutOf g) xs) c p j
+  unfolding stamped
+  stamp-is =
+      let l = layoutOf g in
+      let k = eqb (x p .kind) (kindOn l c j) in
+      let m = eqb (x p .member) (memberTag l c j) in
+      rw (← stripe, eq-eqb j j refl, tag-test (kindOn l c j) (memberTag l c j) (kind-low l c j) is)
+      (tests-in-order (ltb j (g .s)) k m (names l (recordAt l xs) c p j))
+
+  -- on a stripe that there is, the record names the page exactly if it has its number in the chip's field
+  names-is : j < g .s → hasNumber xs j (fieldOn (layoutOf g) c j) p ≡ names (layoutOf g) (recordAt (layoutOf g) xs) c p j
+  unfolding names pagesOn hasNumber
+  names-is low = by-same c (parityChip (layoutOf g) j)
+      (λ e.
+      let is = parity-pages g xs j low c e in
+      rw (← parity-field (layoutOf g) c j e .1, ← ap (λ (y : StripePages). y .main) is, ← ap (λ (y : StripePages). y .side) is, ne-eqb 65535 p (λ q. omega arith)) refl)
+      (λ d.
+      let m = memberOn (layoutOf g) j c in
+      let six = member-low (layoutOf g) c j chip (within (layoutOf g) limited .members-high) d in
+      let is = member-pages g xs j low c m d refl six in
+      let e : j * 32 + 2 * m + 12 ≡ j * 32 + 12 + 2 * m = omega arith in
+      rw (← member-field (layoutOf g) c j m d refl .1, ← ap (λ (y : StripePages). y .main) is, ← ap (λ (y : StripePages). y .side) is, ne-eqb (2 * m) 255 (λ q. omega arith), ne-eqb (2 * m) 24 (λ q. omega arith), e) refl)
+
+  pub field-test : hasNumber xs j (fieldOf (layoutOf g) c t j) p ≡ stamped (layoutOf g) (recordAt (layoutOf g) xs) x c p
+  unfolding hasNumber
+  field-test =
+      let l = layoutOf g in
+      let right = eqb t (tagOn l c j) && ltb j (g .s) in
+      by-test right
+      (λ e. rw (stamp-is, e, ← own-field l c t j e) (names-is (ltb-true j (g .s) (and-both (eqb t (tagOn l c j)) (ltb j (g .s)) e .1))))
+      (λ e. rw (stamp-is, e, ← no-field l c t j e) refl)
+
+-- ---- the fields of a block
+
+-- each is one of a record
+pub fields-fit : (g : Geometry) (c : ℕ) {tags stripes fields : List ℕ} → limits (layoutOf g) ≡ true → c ≤ g .n
+    → FieldsOf (layoutOf g) c tags stripes fields → FieldsFit (layoutOf g) stripes fields
+fields-fit g c {tags} {stripes} {fields} limited chip found =
+    let l = layoutOf g in
+    let few = within l limited .members-high in
+    record {
+      inside = λ i h d.
+          let in-record = field-inside l c (getD tags i 0) (getD stripes i 0) chip few (rw (found .is i h) at d) in
+          rw (found .is i h) in-record;
+    }
