@@ -1,8 +1,8 @@
 -- The short look at a record: what its first eight numbers and the two words behind them tell.
-use Prim.Native.Nat.{ℕ, zero, suc, _+_, _*_, _/_, _%_, _≤_, _<_}
-use native.Mathlib.Nat.{add-zero, add-assoc}
+use Prim.Native.Nat.{ℕ, _+_, _*_, _/_, _%_, _≤_, _<_}
+use native.Mathlib.Nat.{add-assoc}
 use native.Mathlib.Omega.{arith}
-use mathlib.Core.Path.{_≡_, refl, ap, _∙_}
+use mathlib.Core.Path.{_≡_, ap, _∙_}
 use mathlib.Core.Logic.{_≢_}
 use mathlib.Core.Bool.{Bool, true, false, not, cond, _||_}
 use mathlib.Core.List.{List, [], _∷_}
@@ -13,16 +13,15 @@ use Rattle.units.specs.Look.{allBelow, countBelow}
 use Rattle.units.proofs.Looks.{by-order, by-same, all-at}
 use Rattle.units.proofs.Counts.{count-fail, count-cong, count-positive}
 use Rattle.units.proofs.Tallies.{same-tests}
-use Rattle.units.proofs.Tests.{chain, chain-all, under, or-else, differ-by}
+use Rattle.units.proofs.Tests.{chain, chain-all, under, unless-equal}
 use Rattle.slices.proofs.Lists.{number-two}
 use Rattle.layout.specs.declared.Geometry.{Geometry}
 use Rattle.layout.specs.Layout.{layoutOf, limits}
 use Rattle.layout.specs.Images.{recordsLength}
 use Rattle.layout.specs.Record.{recordAt}
-use Rattle.codec.specs.declared.StripeRecord.{StripeRecord}
 use Rattle.codec.specs.Fit.{RecordsFit}
 use Rattle.codec.specs.Views.{sixAt}
-use Rattle.codec.proofs.Encodings.{record-in}
+use Rattle.codec.proofs.Encodings.{six-is, six-number, recordIn, record-in}
 use Rattle.checks.specs.Plain.{Ranges, WordAt, Plain, Glanced, numberAt}
 use Rattle.checks.proofs.Sizes.{bounded}
 use Rattle.checks.proofs.Plains.{Bare, bare-plain}
@@ -39,53 +38,40 @@ next-none x h = same-tests (eqb (next x) 0) (eqb x 65535)
     (λ t. eq-eqb x 65535 (omega (arith, eqb-true (next x) 0 t)))
     (λ t. eq-eqb (next x) 0 (omega (arith, eqb-true x 65535 t)))
 
--- a page number within its range is a member's
-in-range : {n pages : ℕ} {tops : List ℕ} → Ranges n pages tops → (m x : ℕ) → m < 8 → x < 65536 → x ≢ 65535 → next x ≤ getD tops m 0
-    → (m < n) × (x < pages)
-in-range {n} r m x h small d low = by-order m n
+-- a page within its range is a member's
+in-range : {n pages : ℕ} {tops : List ℕ} → Ranges n pages tops → (m x : ℕ) → m < 8 → x < 65536 → leb (next x) (getD tops m 0) ≡ true
+    → x ≢ 65535 → (m < n) × (x < pages)
+in-range {n} {pages} {tops} r m x h small t d =
+    let low = leb-true (next x) (getD tops m 0) t in
+    by-order m n
     (λ b. let top = rw (lt-ltb m n b) at (r .is m h) in (b, omega arith))
     (λ b. let top = rw (le-ltb m n b) at (r .is m h) in absurd (d (omega arith)))
 
+-- the parity page is below the pages
+parity-low : (p pages : ℕ) → eqb p 65535 || ltb p pages ≡ true → p ≢ 65535 → p < pages
+parity-low p pages t d = ltb-true p pages (unless-equal p 65535 (ltb p pages) t d)
+
+-- without one there are no pages
+no-parity : (p names : ℕ) → not (eqb p 65535) || eqb names 0 ≡ true → p ≡ 65535 → names ≡ 0
+no-parity p names t q = eqb-true names 0 (under (eqb p 65535) (eqb names 0) t (eq-eqb p 65535 q))
+
 -- ---- the numbers of a record
 
--- number i of the record at offset a is within its range
+-- number i of the record at offset a
+abbrev numberIn : List ℕ → ℕ → ℕ → ℕ
+numberIn xs a i = numberAt xs (a + 2 * i)
+
+-- it is within its range
 abbrev pub lowIn : List ℕ → List ℕ → ℕ → ℕ → Bool
-lowIn tops xs a i = leb (next (numberAt xs (a + 2 * i))) (getD tops i 0)
+lowIn tops xs a i = leb (next (numberIn xs a i)) (getD tops i 0)
 
 -- it is a page
-abbrev pub pageIn : List ℕ → ℕ → ℕ → Bool
-pageIn xs a i = not (eqb (next (numberAt xs (a + 2 * i))) 0)
+abbrev pub givenIn : List ℕ → ℕ → ℕ → Bool
+givenIn xs a i = not (eqb (next (numberIn xs a i)) 0)
 
--- number m of six, where each is that of f
-six-is : (f : ℕ → ℕ) {p q r s t u : ℕ} → p ≡ f 0 → q ≡ f 1 → r ≡ f 2 → s ≡ f 3 → t ≡ f 4 → u ≡ f 5
-    → (m : ℕ) → m < 6 → getD (p ∷ q ∷ r ∷ s ∷ t ∷ u ∷ []) m 0 ≡ f m
-six-is f p q r s t u zero h = p
-six-is f p q r s t u (suc zero) h = q
-six-is f p q r s t u (suc (suc zero)) h = r
-six-is f p q r s t u (suc (suc (suc zero))) h = s
-six-is f p q r s t u (suc (suc (suc (suc zero)))) h = t
-six-is f p q r s t u (suc (suc (suc (suc (suc zero))))) h = u
-six-is f p q r s t u (suc (suc (suc (suc (suc (suc m)))))) h = omega arith
+-- ---- what the look tells of it
 
--- the numbers at offset a, as the code reads them
-abbrev readAt : List ℕ → ℕ → StripeRecord
-readAt xs a =
-    record {
-      current = sixAt a xs;
-      old = sixAt (a + 12) xs;
-      parity = numberAt xs (a + 24);
-      bitmap = getD xs (a + 26) 0;
-      slot = getD xs (a + 27) 0;
-      rest = numberAt xs (a + 28) + 65536 * numberAt xs (a + 30);
-    }
-
--- its current ones are among the first eight
-currents : (xs : List ℕ) (a m : ℕ) → m < 6 → getD (sixAt a xs) m 0 ≡ numberAt xs (a + 2 * m)
-currents xs a = six-is (λ m. numberAt xs (a + 2 * m)) (rw add-zero) refl refl refl refl refl
-
--- ---- the record at offset a
-
--- its bytes are within the list, and its first eight numbers within their ranges
+-- the first eight numbers are within their ranges
 record Looked (g : Geometry) (xs tops : List ℕ) (a : ℕ) : Type 0 where
   limited : limits (layoutOf g) ≡ true
   ranges : Ranges (g .n) (g .b * g .k) tops
@@ -94,41 +80,38 @@ record Looked (g : Geometry) (xs tops : List ℕ) (a : ℕ) : Type 0 where
   lows : allBelow 8 (lowIn tops xs a) ≡ true
 
 module _ {g : Geometry} {xs tops : List ℕ} {a : ℕ} (k : Looked g xs tops a) where
-  small : (i : ℕ) → i < 8 → numberAt xs (a + 2 * i) < 65536
-  small i h = let e = number-two xs (a + 2 * i) (omega arith) in omega (arith, k .bytes (a + 2 * i), k .bytes (a + 2 * i + 1))
+  -- they have two bytes each
+  small : (i : ℕ) → i < 8 → numberIn xs a i < 65536
+  small i h = omega (arith, number-two xs (a + 2 * i) (omega arith), k .bytes (a + 2 * i), k .bytes (a + 2 * i + 1))
 
-  -- a page among the eight is a member's
-  of-member : (i : ℕ) → i < 8 → numberAt xs (a + 2 * i) ≢ 65535 → (i < g .n) × (numberAt xs (a + 2 * i) < g .b * g .k)
-  of-member i h d =
-      let low = all-at 8 (lowIn tops xs a) (k .lows) i h in
-      in-range (k .ranges) i (numberAt xs (a + 2 * i)) h (small i h) d (leb-true (next (numberAt xs (a + 2 * i))) (getD tops i 0) low)
+  -- a page is a member's
+  of-member : (i : ℕ) → i < 8 → numberIn xs a i ≢ 65535 → (i < g .n) × (numberIn xs a i < g .b * g .k)
+  of-member i h = in-range (k .ranges) i (numberIn xs a i) h (small i h) (all-at 8 (lowIn tops xs a) (k .lows) i h)
 
   -- so the last two are none
-  beyond : (i : ℕ) → i < 8 → 6 ≤ i → numberAt xs (a + 2 * i) ≡ 65535
-  beyond i h high = by-same (numberAt xs (a + 2 * i)) 65535
-      (λ e. e)
-      (λ d. absurd (omega (arith, of-member i h d, bounded g (k .limited))))
+  beyond : (i : ℕ) → i < 8 → 6 ≤ i → numberIn xs a i ≡ 65535
+  beyond i h high = by-same (numberIn xs a i) 65535 (λ e. e) (λ d. absurd (omega (arith, of-member i h d, bounded g (k .limited))))
 
-  -- the count is that of the current pages
-  counted : (i : ℕ) → i < 8 → pageIn xs a i ≡ not (eqb (numberAt xs (a + 2 * i)) 65535)
-  counted i h = ap not (next-none (numberAt xs (a + 2 * i)) (small i h))
+  -- and the pages counted are the current ones
+  counted : (i : ℕ) → i < 8 → givenIn xs a i ≡ not (eqb (numberIn xs a i) 65535)
+  counted i h = ap not (next-none (numberIn xs a i) (small i h))
 
-  counts : countBelow 8 (pageIn xs a) ≡ countBelow 6 (given (sixAt a xs))
+  counts : countBelow 8 (givenIn xs a) ≡ countBelow 6 (given (sixAt a xs))
   counts =
-      let last : (i : ℕ) → i < 8 → 6 ≤ i → pageIn xs a i ≡ false = λ i h high. rw (counted i h, beyond i h high) in
-      count-fail 7 (pageIn xs a) (last 7 (omega arith) (omega arith))
-      ∙ count-fail 6 (pageIn xs a) (last 6 (omega arith) (omega arith))
-      ∙ count-cong 6 (pageIn xs a) (given (sixAt a xs)) (λ i h. rw (counted i (omega arith), currents xs a i h))
+      let last : (i : ℕ) → i < 8 → 6 ≤ i → givenIn xs a i ≡ false = λ i h high. rw (counted i h, beyond i h high) in
+      count-fail 7 (givenIn xs a) (last 7 (omega arith) (omega arith))
+      ∙ count-fail 6 (givenIn xs a) (last 6 (omega arith) (omega arith))
+      ∙ count-cong 6 (givenIn xs a) (given (sixAt a xs)) (λ i h. rw (counted i (omega arith), six-number a xs i h))
 
-  -- a current page is a member's, and there is a parity page
-  current-page : {p : ℕ} → (p ≡ 65535 → countBelow 8 (pageIn xs a) ≡ 0) → (m : ℕ) → m < 6 → numberAt xs (a + 2 * m) ≢ 65535
-      → (m < g .n) × (numberAt xs (a + 2 * m) < g .b * g .k) × (p ≢ 65535)
-  current-page committed m h d =
+  -- a current page, where there are none without the parity page p
+  current-page : {p : ℕ} → (p ≡ 65535 → countBelow 8 (givenIn xs a) ≡ 0) → (m : ℕ) → m < 6 → numberIn xs a m ≢ 65535
+      → (m < g .n) × (numberIn xs a m < g .b * g .k) × (p ≢ 65535)
+  current-page without m h d =
       let (member, page) = of-member m (omega arith) d in
-      let there : pageIn xs a m ≡ true = rw (counted m (omega arith), ne-eqb (numberAt xs (a + 2 * m)) 65535 d) in
-      (member, page, λ q. omega (arith, committed q, count-positive 8 (pageIn xs a) m (omega arith) there))
+      let there : givenIn xs a m ≡ true = rw (counted m (omega arith), ne-eqb (numberIn xs a m) 65535 d) in
+      (member, page, λ q. omega (arith, without q, count-positive 8 (givenIn xs a) m (omega arith) there))
 
-  -- no old number is a page: two are among the eight, and four in the word behind them
+  -- the old numbers are none: two are the last of the eight, and four the word behind them
   no-olds : WordAt xs (a + 16) 18446744073709551615 → (m : ℕ) → m < 6 → getD (sixAt (a + 12) xs) m 0 ≡ 65535
   no-olds w = six-is (λ m. 65535)
       (beyond 6 (omega arith) (omega arith))
@@ -140,16 +123,17 @@ module _ {g : Geometry} {xs tops : List ℕ} {a : ℕ} (k : Looked g xs tops a) 
 
   -- so the record is bare
   bare : {last : ℕ} → WordAt xs (a + 16) 18446744073709551615 → WordAt xs (a + 24) last → last / 65536 ≡ 65280
-      → (last % 65536 ≢ 65535 → last % 65536 < g .b * g .k) → (last % 65536 ≡ 65535 → countBelow 8 (pageIn xs a) ≡ 0)
-      → Bare g (readAt xs a)
-  bare {last} olds word ends low committed =
+      → (last % 65536 ≢ 65535 → last % 65536 < g .b * g .k) → (last % 65536 ≡ 65535 → countBelow 8 (givenIn xs a) ≡ 0)
+      → Bare g (recordIn xs a)
+  bare {last} olds word ends low without =
       let parity : last % 65536 ≡ numberAt xs (a + 24) = omega arith in
       let fourth : numberAt xs (a + 24 + 6) ≡ 0 = omega arith in
       let third : numberAt xs (a + 24 + 4) ≡ 0 = omega arith in
       let second : numberAt xs (a + 26) ≡ 65280 = rw (← add-assoc a 24 2) (omega arith) in
-      let two : numberAt xs (a + 26) ≡ getD xs (a + 26) 0 + 256 * getD xs (a + 27) 0 = rw (← add-assoc a 26 1) (number-two xs (a + 26) (omega arith)) in
+      let two : numberAt xs (a + 26) ≡ getD xs (a + 26) 0 + 256 * getD xs (a + 27) 0 =
+      rw (← add-assoc a 26 1) (number-two xs (a + 26) (omega arith)) in
       record {
-        current = λ m h. rw (currents xs a m h, ← parity) (current-page committed m h);
+        current = λ m h. rw (six-number a xs m h, ← parity) (current-page without m h);
         old = no-olds olds;
         parity = rw parity at low;
         bitmap = omega (arith, k .bytes (a + 26), k .bytes (a + 27));
@@ -165,7 +149,7 @@ module _ (g : Geometry) (olds last : ℕ) (low : Bool) (names : ℕ) where
   otherTests =
       eqb olds 18446744073709551615
       ∷ eqb (last / 65536) 65280
-      ∷ (not (not (eqb (last % 65536) 65535)) || ltb (last % 65536) (g .b * g .k))
+      ∷ (eqb (last % 65536) 65535 || ltb (last % 65536) (g .b * g .k))
       ∷ (not (eqb (last % 65536) 65535) || eqb names 0)
       ∷ []
 
@@ -177,25 +161,28 @@ module _ {g : Geometry} {xs tops : List ℕ} {j olds last : ℕ} (fit : RecordsF
     (ranges : Ranges (g .n) (g .b * g .k) tops) (bytes : (i : ℕ) → getD xs i 0 < 256)
     (old-word : WordAt xs (j * 32 + 16) olds) (word : WordAt xs (j * 32 + 24) last) where
   -- record j is plain where it passes them
-  passes : let names = countBelow 8 (pageIn xs (j * 32)) in
+  passes : let names = countBelow 8 (givenIn xs (j * 32)) in
       plainTests g olds last (allBelow 8 (lowIn tops xs (j * 32))) names ≡ true
       → Plain (layoutOf g) (recordAt (layoutOf g) xs j) (names + cond (eqb (last % 65536) 65535) 0 1)
   unfolding recordsLength
   passes e =
-      let names = countBelow 8 (pageIn xs (j * 32)) in
+      let names = countBelow 8 (givenIn xs (j * 32)) in
       let lows = allBelow 8 (lowIn tops xs (j * 32)) in
       let p = last % 65536 in
       let h = chain-all lows (otherTests g olds last lows names) e in
-      let long : j * 32 + 32 ≤ length xs = omega (arith, fit .long) in
-      let k : Looked g xs tops (j * 32) = record { limited = fit .limited; ranges = ranges; long = long; bytes = bytes; lows = h .0 } in
-      let old-none = rw (eqb-true olds 18446744073709551615 (h .1 .0)) at old-word in
-      let low : p ≢ 65535 → p < g .b * g .k = λ d. ltb-true p (g .b * g .k) (under (not (eqb p 65535)) (ltb p (g .b * g .k)) (h .1 .1 .1 .0) (differ-by p 65535 d)) in
-      let committed : p ≡ 65535 → names ≡ 0 = λ q. eqb-true names 0 (or-else (not (eqb p 65535)) (eqb names 0) (h .1 .1 .1 .1 .0) (rw (eq-eqb p 65535 q))) in
+      let k : Looked g xs tops (j * 32) =
+      record { limited = fit .limited; ranges = ranges; long = omega (arith, fit .long); bytes = bytes; lows = h .0 } in
+      let b = bare k
+      (rw (eqb-true olds 18446744073709551615 (h .1 .0)) at old-word)
+      word
+      (eqb-true (last / 65536) 65280 (h .1 .1 .0))
+      (parity-low p (g .b * g .k) (h .1 .1 .1 .0))
+      (no-parity p names (h .1 .1 .1 .1 .0)) in
       let parity : p ≡ numberAt xs (j * 32 + 24) = omega arith in
-      rw (← record-in g xs j stripe, counts k, parity) (bare-plain (bare k old-none word (eqb-true (last / 65536) 65280 (h .1 .1 .0)) low committed))
+      rw (← record-in g xs j stripe, counts k, parity) (bare-plain b)
 
   -- what the look tells, where all is the count with the parity page
-  pub glanced : {low : Bool} {count all : ℕ} → low ≡ allBelow 8 (lowIn tops xs (j * 32)) → count ≡ countBelow 8 (pageIn xs (j * 32))
+  pub glanced : {low : Bool} {count all : ℕ} → low ≡ allBelow 8 (lowIn tops xs (j * 32)) → count ≡ countBelow 8 (givenIn xs (j * 32))
       → all ≡ count + cond (eqb (last % 65536) 65535) 0 1 → all ≤ 9
       → Glanced (layoutOf g) (recordAt (layoutOf g) xs j) (record { plain = plainTests g olds last low count; names = all })
   glanced p q r few = record { found = rw (r, p, q) passes; few = few }

@@ -23,8 +23,8 @@ use Rattle.names.specs.Stamps.{recordNames, namesIn}
 use Rattle.checks.specs.declared.Glance.{Glance}
 use Rattle.checks.specs.Plain.{Glanced}
 
--- every record below j is sound by itself, has its own slot and is counted; its slot, where it has one, is marked; and its names, of
--- which there are at most 13, are counted too
+-- the flags, the table and the counts are those of the records below j: whether each is sound by itself and has its own slot, which slots
+-- they have, how many have one, and how many page numbers they have, at most 13 each
 pub record Passed (g : Geometry) (r : ℕ → Record) (j : ℕ) (seen : List Bool) (sound own : Bool) (count names : ℕ) : Type 0 where
   pub long : length seen ≡ 256
   pub marks : (i : ℕ) → i < 255 → getD seen i false ≡ someBelow j (slotOf r i)
@@ -48,13 +48,15 @@ passed-start {g} {r} =
       few = omega arith;
     }
 
-module _ {g : Geometry} {r : ℕ → Record} {j : ℕ} {seen : List Bool} {sound own : Bool} {count names : ℕ} (p : Passed g r j seen sound own count names) where
+module _ {g : Geometry} {r : ℕ → Record} {j : ℕ} {seen : List Bool} {sound own : Bool} {count names : ℕ}
+    (p : Passed g r j seen sound own count names) where
   -- the names with those of record j
   more-names : {more : ℕ} → more ≡ recordNames (layoutOf g) (r j) → names + more ≡ namesIn (layoutOf g) r (j + 1)
   more-names e = rw (add-one, sum-more j (λ i. recordNames (layoutOf g) (r i)), e, p .named)
 
   -- record j is plain
-  pub passed-plain : {look : Glance} → Glanced (layoutOf g) (r j) look → look .plain ≡ true → Passed g r (j + 1) seen sound own count (names + look .names)
+  pub passed-plain : {look : Glance} → Glanced (layoutOf g) (r j) look → look .plain ≡ true
+      → Passed g r (j + 1) seen sound own count (names + look .names)
   unfolding allBelow someBelow countBelow
   passed-plain look t =
       let e = look .found t in
@@ -81,7 +83,8 @@ module _ {g : Geometry} {r : ℕ → Record} {j : ℕ} {seen : List Bool} {sound
       → ok ≡ recordSound (layoutOf g) (recordFrom (layoutOf g) e)
       → ((g′ : Geometry) → more ≡ recordNames (layoutOf g′) (recordFrom (layoutOf g′) e)) × (more ≤ 13)
       → next ≡ cond (not (eqb (e .slot) 255)) (count + 1) count
-      → Passed g r (j + 1) (set seen (e .slot) true) (sound && ok) (own && (not (not (eqb (e .slot) 255)) || not (getD seen (e .slot) false))) next (names + more)
+      → let own′ = own && (not (not (eqb (e .slot) 255)) || not (getD seen (e .slot) false)) in
+      Passed g r (j + 1) (set seen (e .slot) true) (sound && ok) own′ next (names + more)
   unfolding allBelow countBelow recordFrom
   passed-next {e} (same, small) o (m, most) n =
       let s : e .slot ≡ r j .slot = ap (λ (x : Record). x .slot) same in

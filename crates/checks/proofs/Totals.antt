@@ -1,4 +1,4 @@
--- How many page numbers a record has, and all of them together.
+-- How many page numbers a record has.
 use Prim.Native.Nat.{ℕ, _+_, _≤_}
 use native.Mathlib.Numerals.{add-one}
 use native.Mathlib.Omega.{arith}

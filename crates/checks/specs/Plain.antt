@@ -13,7 +13,7 @@ use Rattle.rules.specs.Sound.{recordSound}
 use Rattle.names.specs.Stamps.{recordNames}
 use Rattle.checks.specs.declared.Glance.{Glance}
 
--- of the first eight numbers of a plain record, the first n may be any page, and the others none
+-- the first n numbers may be none or any page, and the others only none
 pub record Ranges (n pages : ℕ) (tops : List ℕ) : Type 0 where
   pub long : length tops ≡ 8
   pub is : (m : ℕ) → m < 8 → getD tops m 0 ≡ cond (ltb m n) pages 0
@@ -22,7 +22,7 @@ pub record Ranges (n pages : ℕ) (tops : List ℕ) : Type 0 where
 abbrev pub numberAt : List ℕ → ℕ → ℕ
 numberAt xs a = number (part a 2 xs)
 
--- r is the four numbers from offset a on, as one
+-- r is the four numbers from offset a on, as one; each has two bytes
 pub record WordAt (xs : List ℕ) (a r : ℕ) : Type 0 where
   pub sum : r ≡ numberAt xs a + 65536 * numberAt xs (a + 2) + 4294967296 * numberAt xs (a + 4) + 281474976710656 * numberAt xs (a + 6)
   pub first : numberAt xs a < 65536
@@ -36,6 +36,7 @@ pub record Plain (l : Layout) (e : Record) (names : ℕ) : Type 0 where
   pub slotless : e .slot ≡ 255
   pub counted : names ≡ recordNames l e
 
+-- the look says plain only of such a record; its count is small whatever it says, so that a sum does not overflow
 pub record Glanced (l : Layout) (e : Record) (r : Glance) : Type 0 where
   pub found : r .plain ≡ true → Plain l e (r .names)
   pub few : r .names ≤ 9

@@ -107,15 +107,22 @@ fn record_passes(g: Geometry, e: StripeRecord) -> bool
         & (e.rest == 0)
 }
 
+// Four numbers that are none.
+const NO_OLDS: usize = 18446744073709551615;
+
+// What follows the parity page's number in a plain record: bitmap 0, slot 255, four bytes of 0.
+const NO_PARTIAL: usize = 65280;
+
 // What a short look at a record brings.
 struct Glance {
-    // it is sound and has no page in the partial parity
+    // known to be sound and to have no page in the partial parity; where this is false, nothing is known
     plain: bool,
-    // its page numbers, where it is plain
+    // how many page numbers it has, where it is plain
     names: usize,
 }
 
-// For each of the first eight numbers of a plain record, how many page numbers it may be.
+// For each of the first eight numbers of a plain record, how many pages it may be one of: all for a member's current number, 0 for
+// the others, the first two old ones among them. Eight, for as many are compared in one step.
 fn ranges(g: Geometry) -> [u16; 8]
     requires { ⌜ limits (layoutOf g) ≡ true ⌝ }
     ensures { λ r. ⌜ Ranges (g .n) (g .b * g .k) r ⌝ }
@@ -142,7 +149,8 @@ fn word_at(s: &[u8], a: usize) -> usize
         + 281474976710656 * number_at(s, a + 6)
 }
 
-// Most records have nothing in the partial parity. Of these a short look tells that they are sound.
+// Most records have nothing in the partial parity. A short look may tell that a record is such a one and sound; where it does
+// not, nothing is said of it.
 fn glance_at(records: &[u8], g: Geometry, j: usize, tops: &[u16; 8]) -> Glance
     requires { ⌜ RecordsFit g (now records) × (j < g .s) × Ranges (g .n) (g .b * g .k) (now tops) ⌝ }
     ensures { λ r. ⌜ Glanced (layoutOf g) (recordAt (layoutOf g) (now (records .entry)) j) r ⌝ }
@@ -152,7 +160,7 @@ fn glance_at(records: &[u8], g: Geometry, j: usize, tops: &[u16; 8]) -> Glance
     let last = word_at(records, a + 24);
     let olds = word_at(records, a + 16);
     let parity = last % 65536;
-    let committed = parity != NONE;
+    let bare = parity == NONE;
     let mut low = true;
     let mut names: usize = 0;
     let mut m = 0;
@@ -166,11 +174,11 @@ fn glance_at(records: &[u8], g: Geometry, j: usize, tops: &[u16; 8]) -> Glance
         m += 1;
     }
     let plain = low
-        & (olds == 18446744073709551615)
-        & (last / 65536 == 65280)
-        & (!committed | (parity < pages))
-        & (committed | (names == 0));
-    if committed {
+        & (olds == NO_OLDS)
+        & (last / 65536 == NO_PARTIAL)
+        & (bare | (parity < pages))
+        & (!bare | (names == 0));
+    if !bare {
         names += 1;
     }
     Glance { plain, names }

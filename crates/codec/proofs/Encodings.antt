@@ -14,6 +14,7 @@ use Rattle.units.proofs.Units.{part-unit, getD-unit}
 use Rattle.layout.specs.declared.Geometry.{Geometry}
 use Rattle.layout.specs.Layout.{Layout, layoutOf}
 use Rattle.layout.specs.Record.{sixFrom, recordOf, recordAt}
+use Rattle.codec.specs.declared.StripeRecord.{StripeRecord}
 use Rattle.codec.specs.Views.{sixOf, recordFrom, sixAt}
 
 -- ---- six numbers
@@ -29,15 +30,20 @@ six-below n p q r s t u (suc (suc (suc (suc zero)))) = t
 six-below n p q r s t u (suc (suc (suc (suc (suc zero))))) = u
 six-below n p q r s t u (suc (suc (suc (suc (suc (suc m)))))) = omega arith
 
+-- number m of six, where each is that of f
+pub six-is : (f : ℕ → ℕ) {p q r s t u : ℕ} → p ≡ f 0 → q ≡ f 1 → r ≡ f 2 → s ≡ f 3 → t ≡ f 4 → u ≡ f 5
+    → (m : ℕ) → m < 6 → getD (p ∷ q ∷ r ∷ s ∷ t ∷ u ∷ []) m 0 ≡ f m
+six-is f p q r s t u zero h = p
+six-is f p q r s t u (suc zero) h = q
+six-is f p q r s t u (suc (suc zero)) h = r
+six-is f p q r s t u (suc (suc (suc zero))) h = s
+six-is f p q r s t u (suc (suc (suc (suc zero)))) h = t
+six-is f p q r s t u (suc (suc (suc (suc (suc zero))))) h = u
+six-is f p q r s t u (suc (suc (suc (suc (suc (suc m)))))) h = omega arith
+
 -- number m of the six at offset a
-six-number : (a m : ℕ) (xs : List ℕ) → m < 6 → getD (sixAt a xs) m 0 ≡ number (part (a + m * 2) 2 xs)
-six-number a zero xs h = rw add-zero
-six-number a (suc zero) xs h = refl
-six-number a (suc (suc zero)) xs h = refl
-six-number a (suc (suc (suc zero))) xs h = refl
-six-number a (suc (suc (suc (suc zero)))) xs h = refl
-six-number a (suc (suc (suc (suc (suc zero))))) xs h = refl
-six-number a (suc (suc (suc (suc (suc (suc m)))))) xs h = omega arith
+pub six-number : (a : ℕ) (xs : List ℕ) (m : ℕ) → m < 6 → getD (sixAt a xs) m 0 ≡ number (part (a + 2 * m) 2 xs)
+six-number a xs = six-is (λ m. number (part (a + 2 * m) 2 xs)) (rw add-zero) refl refl refl refl refl
 
 -- the six of record j that begin with its number `from`
 six-of-record : (g : Geometry) (j from : ℕ) (xs : List ℕ) → from ≤ 6
@@ -45,8 +51,8 @@ six-of-record : (g : Geometry) (j from : ℕ) (xs : List ℕ) → from ≤ 6
 unfolding sixOf sixFrom
 six-of-record g j from xs h = fun-ext λ m. elim (decLt m 6) [
   | yes b ↦
-      let e : j * 32 + from * 2 + m * 2 ≡ j * 32 + (from + m) * 2 = omega arith in
-      rw (lt-ltb m 6 b, six-number (j * 32 + from * 2) m xs b, part-unit 32 j ((from + m) * 2) 2 xs (omega arith), e)
+      let e : j * 32 + from * 2 + 2 * m ≡ j * 32 + (from + m) * 2 = omega arith in
+      rw (lt-ltb m 6 b, six-number (j * 32 + from * 2) xs m b, part-unit 32 j ((from + m) * 2) 2 xs (omega arith), e)
   | no b ↦ rw (le-ltb m 6 (omega arith))
 ]
 
@@ -63,19 +69,20 @@ number-four : (a : ℕ) (xs : List ℕ) → number (part a 4 xs) ≡ number (par
 unfolding part
 number-four a xs = rw (number-halves (drop a xs), drop-drop)
 
--- the bytes at the offsets of record j hold it
-pub record-in : (g : Geometry) (xs : List ℕ) (j : ℕ) → j < g .s
-    → recordFrom
-    (layoutOf g)
-    (record {
-      current = sixAt (j * 32) xs;
-      old = sixAt (j * 32 + 12) xs;
-      parity = number (part (j * 32 + 24) 2 xs);
-      bitmap = getD xs (j * 32 + 26) 0;
-      slot = getD xs (j * 32 + 27) 0;
-      rest = number (part (j * 32 + 28) 2 xs) + 65536 * number (part (j * 32 + 30) 2 xs);
-    })
-    ≡ recordAt (layoutOf g) xs j
+-- the record at offset a, as the code reads it
+abbrev pub recordIn : List ℕ → ℕ → StripeRecord
+recordIn xs a =
+    record {
+      current = sixAt a xs;
+      old = sixAt (a + 12) xs;
+      parity = number (part (a + 24) 2 xs);
+      bitmap = getD xs (a + 26) 0;
+      slot = getD xs (a + 27) 0;
+      rest = number (part (a + 28) 2 xs) + 65536 * number (part (a + 30) 2 xs);
+    }
+
+-- the bytes at the offset of record j hold it
+pub record-in : (g : Geometry) (xs : List ℕ) (j : ℕ) → j < g .s → recordFrom (layoutOf g) (recordIn xs (j * 32)) ≡ recordAt (layoutOf g) xs j
 unfolding recordFrom recordAt recordOf
 record-in g xs j h =
     let current = six-of-record g j 0 xs (omega arith) in

@@ -152,7 +152,8 @@ pub fn store_slot(
     count(p, reads, 0, 0)
 }
 
-// Stores 32 bytes as record j of the S + 1, as any store does that makes just this of the images.
+// Stores 32 bytes as record j of the S + 1 and counts one store. Which store it is, the caller says: any x without a program or an
+// erase that makes just this of the images.
 fn store_bytes(records: &mut [u8], g: Geometry, j: usize, bytes: &[u8], p: Progress) -> Progress
     requires { ⌜ RecordsFit g (now records) × (j ≤ g .s) × (length (now bytes) ≡ 32) × Sane p ⌝ }
     ensures { λ r. ⌜ ((x : Store) (cs zs : List ℕ) → programsOf x ≡ 0 → erasesOf x ≡ 0

@@ -18,26 +18,27 @@ use Rattle.layout.specs.Rotation.{parityChip, memberOn}
 use Rattle.layout.specs.Page.{Page}
 use Rattle.layout.specs.Record.{Record, sixFrom, recordOf, recordAt}
 use Rattle.rules.specs.Names.{mainNumber, sideNumber, kindOn, memberTag, names}
-use Rattle.names.specs.declared.Stamp.{Stamp}
+use Rattle.codec.specs.declared.Spare.{Spare}
+use Rattle.codec.specs.Views.{spareOf}
 use Rattle.names.specs.declared.StripePages.{StripePages}
-use Rattle.names.specs.Stamps.{stampOf, pagesOn, stamped, hasMain, hasSide, namesBelow}
+use Rattle.names.specs.Stamps.{pagesOn, stamped, hasMain, hasSide, namesBelow}
 use Rattle.units.proofs.Tallies.{ones, count-more}
 
 module _ (g : Geometry) (xs : List ℕ) (j : ℕ) (stripe : j < g .s) where
   -- the numbers of record j at their offsets: the current pages, the old ones, the parity page
-  current-in : (m : ℕ) → m < 6 → recordAt (layoutOf g) xs j .current m ≡ number (part (j * 32 + 2 * m) 2 xs)
+  pub current-in : (m : ℕ) → m < 6 → recordAt (layoutOf g) xs j .current m ≡ number (part (j * 32 + 2 * m) 2 xs)
   unfolding recordAt recordOf sixFrom
   current-in m six =
       let e : (0 + m) * 2 ≡ 2 * m = omega arith in
       rw (lt-ltb j (g .s) stripe, lt-ltb m 6 six, e, part-unit 32 j (2 * m) 2 xs (omega arith))
 
-  old-in : (m : ℕ) → m < 6 → recordAt (layoutOf g) xs j .old m ≡ number (part (j * 32 + 12 + 2 * m) 2 xs)
+  pub old-in : (m : ℕ) → m < 6 → recordAt (layoutOf g) xs j .old m ≡ number (part (j * 32 + 12 + 2 * m) 2 xs)
   unfolding recordAt recordOf sixFrom
   old-in m six =
       let e : j * 32 + (6 + m) * 2 ≡ j * 32 + 12 + 2 * m = omega arith in
       rw (lt-ltb j (g .s) stripe, lt-ltb m 6 six, part-unit 32 j ((6 + m) * 2) 2 xs (omega arith), e)
 
-  parity-in : recordAt (layoutOf g) xs j .parity ≡ number (part (j * 32 + 24) 2 xs)
+  pub parity-in : recordAt (layoutOf g) xs j .parity ≡ number (part (j * 32 + 24) 2 xs)
   unfolding recordAt recordOf
   parity-in = rw (lt-ltb j (g .s) stripe, part-unit 32 j 24 2 xs (omega arith))
 
@@ -57,13 +58,13 @@ module _ (g : Geometry) (xs : List ℕ) (j : ℕ) (stripe : j < g .s) where
 
 -- ---- the test of a stamp as the code makes it, of the spare bytes t of page p
 
-module _ (l : Layout) (r : ℕ → Record) (x : ℕ → Page) (c p : ℕ) (t : Stamp) (spare : stampOf (x p) ≡ t) where
+module _ (l : Layout) (r : ℕ → Record) (x : ℕ → Page) (c p : ℕ) (t : Spare) (spare : spareOf (x p) ≡ t) where
   open Layout l using (S)
 
   -- a stamp of no stripe
   pub stamp-beyond : S ≤ t .stripe → stamped l r x c p ≡ false
   unfolding stamped
-  stamp-beyond h = rw (ap (λ (y : Stamp). y .stripe) spare, le-ltb (t .stripe) S h)
+  stamp-beyond h = rw (ap (λ (y : Spare). y .stripe) spare, le-ltb (t .stripe) S h)
 
   -- that of a stripe, with what its record says of the chip
   pub stamp-test : (e : StripePages) → t .stripe < S → e ≡ pagesOn l c (t .stripe) (r (t .stripe))
@@ -71,9 +72,9 @@ module _ (l : Layout) (r : ℕ → Record) (x : ℕ → Page) (c p : ℕ) (t : S
   unfolding stamped pagesOn names
   stamp-test e h q = rw (
     q,
-    ap (λ (y : Stamp). y .stripe) spare,
-    ap (λ (y : Stamp). y .kind) spare,
-    ap (λ (y : Stamp). y .member) spare,
+    ap (λ (y : Spare). y .stripe) spare,
+    ap (λ (y : Spare). y .kind) spare,
+    ap (λ (y : Spare). y .member) spare,
     lt-ltb (t .stripe) S h,
     eq-eqb (t .stripe) (t .stripe) refl,
   )

@@ -12,12 +12,7 @@ use Rattle.layout.specs.Record.{Record, recordAt}
 use Rattle.rules.specs.Names.{mainNumber, sideNumber, kindOn, memberTag, names}
 use Rattle.rules.specs.Sound.{taggedPage, taggedStripe}
 use Rattle.codec.specs.Fit.{ChipsFit, RecordsFit}
-use Rattle.names.specs.declared.Stamp.{Stamp}
 use Rattle.names.specs.declared.StripePages.{StripePages}
-
--- the stamp of a page, as the code's struct
-abbrev pub stampOf : Page → Stamp
-stampOf x = record { kind = x .kind; member = x .member; stripe = x .stripe }
 
 module _ (l : Layout) where
   open Layout l using (S)

@@ -3,6 +3,7 @@
 use codec::DATA;
 use codec::NONE;
 use codec::PARITY;
+use codec::Spare;
 use codec::parity_chip;
 use codec::spare_at;
 use layout::Geometry;
@@ -14,25 +15,19 @@ ghost use Rattle.layout.specs.Page.{Page};
 ghost use Rattle.layout.specs.Record.{recordAt};
 ghost use Rattle.rules.specs.Names.{named};
 ghost use Rattle.codec.specs.Fit.{RecordsFit};
-ghost use Rattle.names.specs.Stamps.{stampOf, pagesOn, stamped, namesBelow, TagsPass};
+ghost use Rattle.codec.specs.Views.{spareOf};
+ghost use Rattle.names.specs.Stamps.{pagesOn, stamped, namesBelow, TagsPass};
 
 // The pages of a stripe on one chip: their numbers, the side number being an old page's or none, and their stamp.
-pub struct StripePages {
-    pub main: usize,
-    pub side: usize,
-    pub kind: usize,
-    pub member: usize,
-}
-
-// What a page's spare bytes say of whose it is.
-pub struct Stamp {
-    pub kind: usize,
-    pub member: usize,
-    pub stripe: usize,
+struct StripePages {
+    main: usize,
+    side: usize,
+    kind: usize,
+    member: usize,
 }
 
 // What the record of stripe j says of chip c.
-pub fn stripe_pages(records: &[u8], g: Geometry, c: usize, j: usize) -> StripePages
+fn stripe_pages(records: &[u8], g: Geometry, c: usize, j: usize) -> StripePages
     requires { ⌜ RecordsFit g (now records) × (c ≤ g .n) × (j < g .s) ⌝ }
     ensures { λ r. ⌜ r ≡ pagesOn (layoutOf g) c j (recordAt (layoutOf g) (now (records .entry)) j) ⌝ }
 {
@@ -55,10 +50,10 @@ pub fn stripe_pages(records: &[u8], g: Geometry, c: usize, j: usize) -> StripePa
     }
 }
 
-// Whether page p of chip c, with this stamp, is named by the record of its stripe.
-pub fn is_stamped(records: &[u8], g: Geometry, c: usize, p: usize, t: Stamp) -> bool
+// Whether page p of chip c, with these spare bytes, is named by the record of its stripe.
+fn is_stamped(records: &[u8], g: Geometry, c: usize, p: usize, t: Spare) -> bool
     requires { ⌜ RecordsFit g (now records) × (c ≤ g .n) ⌝ }
-    ensures { λ r. ⌜ ((x : ℕ → Page) → stampOf (x p) ≡ t → r ≡ stamped (layoutOf g) (recordAt (layoutOf g) (now (records .entry))) x c p) ⌝ }
+    ensures { λ r. ⌜ ((x : ℕ → Page) → spareOf (x p) ≡ t → r ≡ stamped (layoutOf g) (recordAt (layoutOf g) (now (records .entry))) x c p) ⌝ }
 {
     let s = g.s as usize;
     let j = t.stripe;
@@ -80,13 +75,7 @@ pub fn named_at(chips: &[u8], records: &[u8], g: Geometry, c: usize, p: usize) -
     requires { ⌜ TagsPass g (now chips) (now records) c × (p < pages (layoutOf g)) ⌝ }
     ensures { λ r. ⌜ r ≡ named (layoutOf g) (recordAt (layoutOf g) (now (records .entry))) c p ⌝ }
 {
-    let u = spare_at(chips, g, c, p);
-    let t = Stamp {
-        kind: u.kind,
-        member: u.member,
-        stripe: u.stripe,
-    };
-    is_stamped(records, g, c, p, t)
+    is_stamped(records, g, c, p, spare_at(chips, g, c, p))
 }
 
 // How many pages of chip c the records name.

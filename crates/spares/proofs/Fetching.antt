@@ -38,11 +38,11 @@ fill-more {P} {xs} {i} {v} h place e = record {
 
 -- ---- the spares of a block
 
--- number m is the tag at offset a, with so many pages of u bytes before it
+-- t is the tag that stands m pages of u bytes behind offset a
 abbrev pub TagAt : List ℕ → ℕ → ℕ → ℕ → ℕ → Type 0
 TagAt chips a u m t = TagIs t (getD chips (a + m * u) 0) (getD chips (a + m * u + 1) 0)
 
--- and the stripe
+-- and j the stripe
 abbrev pub StripeAt : List ℕ → ℕ → ℕ → ℕ → ℕ → Type 0
 StripeAt chips a u m j = j ≡ number (part (a + m * u + 2) 2 chips)
 

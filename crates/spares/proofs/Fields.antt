@@ -1,7 +1,7 @@
 -- Where the record of a stripe has the number of a page, found from the page's tag; and the test of the page by that number.
-use Prim.Native.Nat.{ℕ, _+_, _-_, _*_, _≤_, _<_}
+use Prim.Native.Nat.{ℕ, _+_, _*_, _≤_, _<_}
 use native.Mathlib.Omega.{arith}
-use mathlib.Core.Path.{_≡_, refl, sym, ap}
+use mathlib.Core.Path.{_≡_, refl, sym}
 use mathlib.Core.Logic.{_≢_}
 use mathlib.Core.Bool.{Bool, true, false, _&&_, and-true, and-false}
 use mathlib.Core.List.{List}
@@ -12,15 +12,14 @@ use Rattle.units.proofs.Looks.{by-test, by-same, by-order}
 use Rattle.units.proofs.Tests.{and-both, both-and}
 use Rattle.units.proofs.Tallies.{same-tests}
 use Rattle.layout.specs.declared.Geometry.{Geometry}
-use Rattle.layout.specs.Layout.{Layout, layoutOf, limits}
+use Rattle.layout.specs.Layout.{Layout, layoutOf, limits, none}
 use Rattle.layout.specs.Rotation.{parityChip, memberOn}
 use Rattle.layout.specs.Page.{Page}
 use Rattle.layout.specs.Record.{recordAt}
 use Rattle.layout.proofs.Limits.{within}
-use Rattle.rules.specs.Names.{kindOn, memberTag, names}
-use Rattle.names.specs.declared.StripePages.{StripePages}
-use Rattle.names.specs.Stamps.{stamped, pagesOn}
-use Rattle.names.proofs.Readings.{parity-pages, member-pages}
+use Rattle.rules.specs.Names.{mainNumber, sideNumber, kindOn, memberTag, names}
+use Rattle.names.specs.Stamps.{stamped}
+use Rattle.names.proofs.Readings.{current-in, old-in, parity-in}
 use Rattle.spares.specs.Scans.{TagIs, hasNumber, tagOn, fieldOn, fieldOf, FieldsOf, FieldsFit}
 
 -- ---- the tag and the field of chip c's page of stripe j
@@ -63,8 +62,9 @@ module _ (l : Layout) (c t j : ℕ) where
   -- a field is one of a record
   module _ (low : c ≤ N) (few : N ≤ 6) where
     on-low : fieldOn l c j ≤ 24
-    unfolding fieldOn memberOn
-    on-low = by-test (eqb c (parityChip l j)) (λ e. rw e (omega arith)) (λ e. rw e (by-test (ltb c (parityChip l j)) (λ f. rw f (omega arith)) (λ f. rw f (omega arith))))
+    on-low = by-same c (parityChip l j)
+        (λ e. rw (← parity-field l c j e .1) (omega arith))
+        (λ d. rw (← member-field l c j (memberOn l j c) d refl .1) (omega (arith, member-low l c j low few d)))
 
     pub field-inside : fieldOf l c t j ≢ 255 → (j < S) × (fieldOf l c t j ≤ 24)
     field-inside d = by-test (eqb t (tagOn l c j) && ltb j S)
@@ -109,17 +109,27 @@ module _ (g : Geometry) (xs : List ℕ) (x : ℕ → Page) (c p t j : ℕ) (limi
 
   -- on a stripe that there is, the record names the page exactly if it has its number in the chip's field
   names-is : j < g .s → hasNumber xs j (fieldOn (layoutOf g) c j) p ≡ names (layoutOf g) (recordAt (layoutOf g) xs) c p j
-  unfolding names pagesOn hasNumber
+  unfolding names mainNumber sideNumber none hasNumber
   names-is low = by-same c (parityChip (layoutOf g) j)
-      (λ e.
-      let is = parity-pages g xs j low c e in
-      rw (← parity-field (layoutOf g) c j e .1, ← ap (λ (y : StripePages). y .main) is, ← ap (λ (y : StripePages). y .side) is, ne-eqb 65535 p (λ q. omega arith)) refl)
+      (λ e. rw (
+        ← parity-field (layoutOf g) c j e .1,
+        eq-eqb c (parityChip (layoutOf g) j) e,
+        parity-in g xs j low,
+        ne-eqb 65535 p (λ q. omega arith),
+      ) refl)
       (λ d.
       let m = memberOn (layoutOf g) j c in
       let six = member-low (layoutOf g) c j chip (within (layoutOf g) limited .members-high) d in
-      let is = member-pages g xs j low c m d refl six in
       let e : j * 32 + 2 * m + 12 ≡ j * 32 + 12 + 2 * m = omega arith in
-      rw (← member-field (layoutOf g) c j m d refl .1, ← ap (λ (y : StripePages). y .main) is, ← ap (λ (y : StripePages). y .side) is, ne-eqb (2 * m) 255 (λ q. omega arith), ne-eqb (2 * m) 24 (λ q. omega arith), e) refl)
+      rw (
+        ← member-field (layoutOf g) c j m d refl .1,
+        ne-eqb c (parityChip (layoutOf g) j) d,
+        current-in g xs j low m six,
+        old-in g xs j low m six,
+        ne-eqb (2 * m) 255 (λ q. omega arith),
+        ne-eqb (2 * m) 24 (λ q. omega arith),
+        e,
+      ) refl)
 
   pub field-test : hasNumber xs j (fieldOf (layoutOf g) c t j) p ≡ stamped (layoutOf g) (recordAt (layoutOf g) xs) x c p
   unfolding hasNumber

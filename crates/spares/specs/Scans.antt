@@ -27,9 +27,9 @@ use Rattle.spares.specs.declared.Shape.{Shape}
 pub record TagIs (t k m : ℕ) : Type 0 where
   pub kind : t % 256 ≡ k
   pub member : t / 256 ≡ m
-  pub small : t < 65536
 
--- with the bytes of the records: the record of stripe j has page p in this field, or as the old page beside it
+-- with the bytes of the records: the record of stripe j has page p in this field, or as the old page beside it; 255 is no field, and
+-- the parity page (24) has no old one beside it
 unfoldable pub hasNumber : List ℕ → ℕ → ℕ → ℕ → Bool
 hasNumber records j field p =
     not (eqb field 255)

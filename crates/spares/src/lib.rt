@@ -1,6 +1,8 @@
 //! The checks of the spare bytes.
 
 use codec::CollectionRecord;
+use codec::DATA;
+use codec::PARITY;
 use codec::page_offset;
 use codec::spare_at;
 use layout::Geometry;
@@ -34,11 +36,6 @@ pub struct Scan {
     // pages that the records name, each found by its own stamp
     pub named: usize,
 }
-
-// The tags of a parity page and of a page of member 0; each member more adds 256.
-const PARITY_TAG: u16 = 80;
-
-const DATA_TAG: u16 = 68;
 
 // The field of the parity page's number in a record, and what stands for no field.
 const PARITY_FIELD: u16 = 24;
@@ -84,8 +81,8 @@ fn fetch_stamps(
     }
 }
 
-// Where the record of stripe j has the number of the page of chip c with this tag; 255 where it has none such. The width of
-// a stripe is N + 1.
+// Where the record of stripe j has the number of the page of chip c with this tag; no field where the tag is not that of the
+// stripe's own page there. The width of a stripe is N + 1.
 fn field_of(g: Geometry, width: u16, c: u16, tag: u16, j: u16) -> u16
     requires { ⌜ (limits (layoutOf g) ≡ true) × (width ≡ g .n + 1) × (c ≤ g .n) ⌝ }
     ensures { λ r. ⌜ r ≡ fieldOf (layoutOf g) c tag j ⌝ }
@@ -93,22 +90,21 @@ fn field_of(g: Geometry, width: u16, c: u16, tag: u16, j: u16) -> u16
     let s = g.s as u16;
     let parity = width - 1 - j % width;
     let m = if c <= parity { c } else { c - 1 };
-    let stamp = if c == parity {
-        PARITY_TAG
+    let own = if c == parity {
+        PARITY as u16
     } else {
-        DATA_TAG + 256 * m
+        DATA as u16 + 256 * m
     };
     let field = if c == parity { PARITY_FIELD } else { 2 * m };
-    if (tag == stamp) & (j < s) {
+    if (tag == own) & (j < s) {
         field
     } else {
         NO_FIELD
     }
 }
 
-// The fields of the pages of a block of chip c. Each call gives the width as a constant, for a remainder by a constant
-// takes no division.
-fn find_fields(
+// The fields of the pages of a block of chip c.
+fn fields_by_width(
     g: Geometry,
     width: u16,
     c: usize,
@@ -128,6 +124,7 @@ fn find_fields(
     }
 }
 
+// The same for any N. Each call gives the width as a constant, for a remainder by a constant takes no division.
 fn fields_of(
     g: Geometry,
     c: usize,
@@ -139,11 +136,11 @@ fn fields_of(
     ensures { λ _. ⌜ FieldsOf (layoutOf g) c (now (tags .entry)) (now (stripes .entry)) (now (fields .exit)) ⌝ }
 {
     match g.n as usize {
-        2 => find_fields(g, 3, c, tags, stripes, fields),
-        3 => find_fields(g, 4, c, tags, stripes, fields),
-        4 => find_fields(g, 5, c, tags, stripes, fields),
-        5 => find_fields(g, 6, c, tags, stripes, fields),
-        _ => find_fields(g, 7, c, tags, stripes, fields),
+        2 => fields_by_width(g, 3, c, tags, stripes, fields),
+        3 => fields_by_width(g, 4, c, tags, stripes, fields),
+        4 => fields_by_width(g, 5, c, tags, stripes, fields),
+        5 => fields_by_width(g, 6, c, tags, stripes, fields),
+        _ => fields_by_width(g, 7, c, tags, stripes, fields),
     }
 }
 

@@ -1,4 +1,4 @@
--- The loop's invariant: the flag and the count are those of the numbers below m.
+-- The loop's invariant: the flag and the count are those of the numbers below m. What they tell together with the two words is in Glances.
 use Prim.Native.Nat.{ℕ, _≤_, _-_, _+_, _*_, _%_}
 use native.Mathlib.Numerals.{add-one}
 use native.Mathlib.Omega.{arith}
@@ -15,16 +15,16 @@ use Rattle.layout.specs.Record.{recordAt}
 use Rattle.layout.specs.Images.{recordsLength}
 use Rattle.checks.specs.Plain.{Glanced}
 use Rattle.checks.proofs.Sizes.{bounded}
-use Rattle.checks.proofs.Glances.{next, lowIn, pageIn, plainTests, glanced}
+use Rattle.checks.proofs.Glances.{next, lowIn, givenIn, plainTests, glanced}
 use Rattle.checks.proofs.glance_at.Statement.{statement}
 use Rattle.checks.proofs.glance_at.Tie as tie
 
 abbrev Inv-loop : tie.InvT-loop
-Inv-loop records j tops a pages last olds parity committed low₀ names₀ m₀ low names m =
-    (m ≤ 8) × (low ≡ allBelow m (lowIn tops records a)) × (names ≡ countBelow m (pageIn records a)) × (names ≤ m)
+Inv-loop records j tops a pages last olds parity bare low₀ names₀ m₀ low names m =
+    (m ≤ 8) × (low ≡ allBelow m (lowIn tops records a)) × (names ≡ countBelow m (givenIn records a)) × (names ≤ m)
 
 abbrev μ-loop : tie.MeasureT-loop
-μ-loop records j tops a pages last olds parity committed low₀ names₀ m₀ low names m = 8 - m
+μ-loop records j tops a pages last olds parity bare low₀ names₀ m₀ low names m = 8 - m
 
 mul-a : tie.Need-mul-a Inv-loop μ-loop
 unfolding recordsLength
@@ -101,22 +101,22 @@ loop-again c =
     let number = c .before .before .number-at .ensures .0 in (
       omega arith,
       rw (add-one (loop .m), loop .inv .1, number),
-      rw (with-page c, number, loop .inv .2, add-one (loop .m), count-more (loop .m) (pageIn (a .records .now) (a .j * 32))),
+      rw (with-page c, number, loop .inv .2, add-one (loop .m), count-more (loop .m) (givenIn (a .records .now) (a .j * 32))),
       ⊎-elim (λ w. omega arith) (λ w. omega arith) (c .if1 .came),
     )
 
 add-names-2 : tie.Need-add-names-2 Inv-loop μ-loop
 add-names-2 c = omega arith
 
--- after the loop the look is whole, where count is the names with the parity page
-looked : (c : tie.After-loop Inv-loop μ-loop) {count : ℕ}
+-- after the loop the look is whole; count is the names with the parity page
+whole : (c : tie.After-loop Inv-loop μ-loop) {count : ℕ}
     → let a = c .before .before .before .before .before .before .args in
     let loop = c .before .loop in
     let last = c .before .before .before .word-at .result in
     count ≡ loop .names + cond (eqb (last % 65536) 65535) 0 1 → count ≤ 9
     → Glanced (layoutOf (a .g)) (recordAt (layoutOf (a .g)) (a .records .now) (a .j))
     (record { plain = plainTests (a .g) (c .before .before .word-at2 .result) last (loop .low) (loop .names); names = count })
-looked c =
+whole c =
     let start = c .before .before .before .before .before .before in
     let loop = c .before .loop in
     let all : loop .m ≡ 8 = omega arith in
@@ -130,12 +130,12 @@ looked c =
 returns : tie.Need-returns Inv-loop μ-loop
 returns c =
     let last = c .before .before .before .before .word-at .result in
-    looked (c .before) (rw (not-true (eqb (last % 65536) 65535) (c .if2 .taken))) (omega arith)
+    whole (c .before) (rw (not-true (eqb (last % 65536) 65535) (c .if2 .taken))) (omega arith)
 
 returns-2 : tie.Need-returns-2 Inv-loop μ-loop
 returns-2 c =
     let last = c .before .before .before .before .word-at .result in
-    looked (c .before) (rw (not-false (eqb (last % 65536) 65535) (c .if2 .left)) (omega arith)) (omega arith)
+    whole (c .before) (rw (not-false (eqb (last % 65536) 65535) (c .if2 .left)) (omega arith)) (omega arith)
 
 pub glance-at-spec : {M : Type 1} → statement M
 glance-at-spec =

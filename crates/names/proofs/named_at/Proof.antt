@@ -1,11 +1,10 @@
 -- What `is_stamped` says of the page's own spare bytes is whether it is named, since every named page is rightly stamped.
-use mathlib.Core.Path.{sym, ap, _∙_}
+use mathlib.Core.Path.{sym, _∙_}
 use borrow.Author.Needs.{needs}
 use Rattle.layout.specs.Layout.{layoutOf}
 use Rattle.layout.specs.Page.{pageAt}
 use Rattle.layout.specs.Record.{recordAt}
 use Rattle.layout.proofs.Limits.{within}
-use Rattle.codec.specs.declared.Spare.{Spare}
 use Rattle.names.proofs.Stamping.{named-stamped}
 use Rattle.names.proofs.named_at.Statement.{statement}
 use Rattle.names.proofs.named_at.Tie as tie
@@ -23,7 +22,7 @@ returns c =
     let l = layoutOf (a .g) in
     let x = pageAt l (a .chips .now) (a .c) in
     let w = within l (s .pre .0 .chips-fit .limited) in
-    c .is-stamped .ensures x (ap (λ (t : Spare). record { kind = t .kind; member = t .member; stripe = t .stripe }) (sym (c .before .spare-at .ensures .0)))
+    c .is-stamped .ensures x (sym (c .before .spare-at .ensures .0))
     ∙ sym (named-stamped l w (recordAt l (a .records .now)) x (a .c) (s .pre .0 .tags) (a .p) (s .pre .1))
 
 pub named-at-spec : {M : Type 1} → statement M

@@ -55,11 +55,17 @@ member c =
     (λ w. (omega (arith, w .1), λ d. rw (le-ltb (s .args .c) q (omega arith)) (w .1)))
     (c .if1 .came)
 
-mul-stamp : tie.Need-mul-stamp
-mul-stamp c = record { fits = omega (arith, member (c .before .before) .0) }
+cast-own : tie.Need-cast-own
+cast-own c = search needs
 
-add-stamp : tie.Need-add-stamp
-add-stamp c = record { fits = omega (arith, member (c .before .before) .0) }
+cast-own-2 : tie.Need-cast-own-2
+cast-own-2 c = search needs
+
+mul-own : tie.Need-mul-own
+mul-own c = record { fits = omega (arith, member (c .before .before) .0) }
+
+add-own : tie.Need-add-own
+add-own c = record { fits = omega (arith, member (c .before .before) .0) }
 
 mul-field : tie.Need-mul-field
 mul-field c = record { fits = omega (arith, member (c .before .before .before) .0) }
@@ -67,7 +73,7 @@ mul-field c = record { fits = omega (arith, member (c .before .before .before) .
 -- so the tag and the field are those of the definition
 worked-out : (c : tie.Joined3)
     → let a = c .before .before .before .before .args in
-    (c .before .if2 .stamp ≡ tagOn (layoutOf (a .g)) (a .c) (a .j)) × (c .if3 .field ≡ fieldOn (layoutOf (a .g)) (a .c) (a .j))
+    (c .before .if2 .own ≡ tagOn (layoutOf (a .g)) (a .c) (a .j)) × (c .if3 .field ≡ fieldOn (layoutOf (a .g)) (a .c) (a .j))
 worked-out c =
     let s = c .before .before .before .before in
     let l = layoutOf (s .args .g) in
@@ -105,8 +111,10 @@ field-of-spec =
     rem-parity
     sub-parity-2
     sub-m
-    mul-stamp
-    add-stamp
+    cast-own
+    cast-own-2
+    mul-own
+    add-own
     mul-field
     returns
     returns-2)

@@ -7,20 +7,20 @@ use Rattle.layout.proofs.Limits.{within}
 use Rattle.spares.proofs.fields_of.Statement.{statement}
 use Rattle.spares.proofs.fields_of.Tie as tie
 
-find-fields-requires : tie.Need-find-fields-requires
-find-fields-requires c κs = search needs
+fields-by-width-requires : tie.Need-fields-by-width-requires
+fields-by-width-requires c κs = search needs
 
-find-fields-requires-2 : tie.Need-find-fields-requires-2
-find-fields-requires-2 c κs = search needs
+fields-by-width-requires-2 : tie.Need-fields-by-width-requires-2
+fields-by-width-requires-2 c κs = search needs
 
-find-fields-requires-3 : tie.Need-find-fields-requires-3
-find-fields-requires-3 c κs = search needs
+fields-by-width-requires-3 : tie.Need-fields-by-width-requires-3
+fields-by-width-requires-3 c κs = search needs
 
-find-fields-requires-4 : tie.Need-find-fields-requires-4
-find-fields-requires-4 c κs = search needs
+fields-by-width-requires-4 : tie.Need-fields-by-width-requires-4
+fields-by-width-requires-4 c κs = search needs
 
-find-fields-requires-5 : tie.Need-find-fields-requires-5
-find-fields-requires-5 c κs =
+fields-by-width-requires-5 : tie.Need-fields-by-width-requires-5
+fields-by-width-requires-5 c κs =
     let s = c .before .before in
     let n = within (layoutOf (s .args .g)) (s .pre .0) in
     let d = c .before .match .rest in
@@ -46,11 +46,11 @@ pub fields-of-spec : {M : Type 1} → statement M
 fields-of-spec =
     tie.close
     (tie.spec
-    find-fields-requires
-    find-fields-requires-2
-    find-fields-requires-3
-    find-fields-requires-4
-    find-fields-requires-5
+    fields-by-width-requires
+    fields-by-width-requires-2
+    fields-by-width-requires-3
+    fields-by-width-requires-4
+    fields-by-width-requires-5
     returns
     returns-2
     returns-3

@@ -7,8 +7,8 @@ use Rattle.layout.specs.Layout.{layoutOf}
 use Rattle.layout.proofs.Limits.{within}
 use Rattle.spares.specs.Scans.{fieldOf}
 use Rattle.spares.proofs.Fetching.{Filled, fill-start, fill-more}
-use Rattle.spares.proofs.find_fields.Statement.{statement}
-use Rattle.spares.proofs.find_fields.Tie as tie
+use Rattle.spares.proofs.fields_by_width.Statement.{statement}
+use Rattle.spares.proofs.fields_by_width.Tie as tie
 
 abbrev Inv-loop : tie.InvT-loop
 Inv-loop g width c tags stripes fields₀ k chip i₀ fields i =
@@ -70,8 +70,8 @@ returns c =
     let all : c .before .loop .i ≡ c .before .before .args .g .k = omega arith in
     record { is = λ i h. c .before .loop .inv .2 .at i (rw all h) }
 
-pub find-fields-spec : {M : Type 1} → statement M
-find-fields-spec =
+pub fields-by-width-spec : {M : Type 1} → statement M
+fields-by-width-spec =
     tie.close
     (tie.spec
     Inv-loop
