@@ -19,27 +19,27 @@ use Rattle.codec.specs.Views.{sixOf, recordFrom, sixAt}
 
 -- ---- six numbers
 
--- six numbers below n, and 0 beyond them
+-- what holds of each of six numbers in its place, and of 0 beyond them
+six-each : (P : ℕ → ℕ → Type 0) (a b c d e f : ℕ) → P 0 a → P 1 b → P 2 c → P 3 d → P 4 e → P 5 f → ((m : ℕ) → 6 ≤ m → P m 0)
+    → (m : ℕ) → P m (getD (a ∷ b ∷ c ∷ d ∷ e ∷ f ∷ []) m 0)
+six-each P a b c d e f p q r s t u z zero = p
+six-each P a b c d e f p q r s t u z (suc zero) = q
+six-each P a b c d e f p q r s t u z (suc (suc zero)) = r
+six-each P a b c d e f p q r s t u z (suc (suc (suc zero))) = s
+six-each P a b c d e f p q r s t u z (suc (suc (suc (suc zero)))) = t
+six-each P a b c d e f p q r s t u z (suc (suc (suc (suc (suc zero))))) = u
+six-each P a b c d e f p q r s t u z (suc (suc (suc (suc (suc (suc m)))))) = z (suc (suc (suc (suc (suc (suc m)))))) (omega arith)
+
+-- all below n
 pub six-below : (n : ℕ) {a b c d e f : ℕ} → a < n → b < n → c < n → d < n → e < n → f < n
     → (m : ℕ) → getD (a ∷ b ∷ c ∷ d ∷ e ∷ f ∷ []) m 0 < n
-six-below n p q r s t u zero = p
-six-below n p q r s t u (suc zero) = q
-six-below n p q r s t u (suc (suc zero)) = r
-six-below n p q r s t u (suc (suc (suc zero))) = s
-six-below n p q r s t u (suc (suc (suc (suc zero)))) = t
-six-below n p q r s t u (suc (suc (suc (suc (suc zero))))) = u
-six-below n p q r s t u (suc (suc (suc (suc (suc (suc m)))))) = omega arith
+six-below n {a} {b} {c} {d} {e} {f} p q r s t u = six-each (λ m x. x < n) a b c d e f p q r s t u (λ m h. omega arith)
 
--- number m of six, where each is that of f
-pub six-is : (f : ℕ → ℕ) {p q r s t u : ℕ} → p ≡ f 0 → q ≡ f 1 → r ≡ f 2 → s ≡ f 3 → t ≡ f 4 → u ≡ f 5
-    → (m : ℕ) → m < 6 → getD (p ∷ q ∷ r ∷ s ∷ t ∷ u ∷ []) m 0 ≡ f m
-six-is f p q r s t u zero h = p
-six-is f p q r s t u (suc zero) h = q
-six-is f p q r s t u (suc (suc zero)) h = r
-six-is f p q r s t u (suc (suc (suc zero))) h = s
-six-is f p q r s t u (suc (suc (suc (suc zero)))) h = t
-six-is f p q r s t u (suc (suc (suc (suc (suc zero))))) h = u
-six-is f p q r s t u (suc (suc (suc (suc (suc (suc m)))))) h = omega arith
+-- each that of g
+pub six-is : (g : ℕ → ℕ) {a b c d e f : ℕ} → a ≡ g 0 → b ≡ g 1 → c ≡ g 2 → d ≡ g 3 → e ≡ g 4 → f ≡ g 5
+    → (m : ℕ) → m < 6 → getD (a ∷ b ∷ c ∷ d ∷ e ∷ f ∷ []) m 0 ≡ g m
+six-is g {a} {b} {c} {d} {e} {f} p q r s t u =
+    six-each (λ m x. m < 6 → x ≡ g m) a b c d e f (λ h. p) (λ h. q) (λ h. r) (λ h. s) (λ h. t) (λ h. u) (λ m high h. omega arith)
 
 -- number m of the six at offset a
 pub six-number : (a : ℕ) (xs : List ℕ) (m : ℕ) → m < 6 → getD (sixAt a xs) m 0 ≡ number (part (a + 2 * m) 2 xs)

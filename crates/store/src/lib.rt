@@ -21,9 +21,27 @@ ghost use mathlib.Core.Bool.{cond};
 ghost use Rattle.layout.specs.Layout.{layoutOf};
 ghost use Rattle.rules.specs.declared.Check.the-variants.{Passed};
 ghost use Rattle.rules.specs.declared.Answer.the-variants.{Cut, Done};
-ghost use Rattle.rules.specs.Refusals.{buffersCheck, imagesCheck};
+ghost use Rattle.rules.specs.Refusals.{refusalNumber, buffersCheck, imagesCheck};
 ghost use Rattle.rules.specs.Calls.{Outcome, ReadOutcome, formatCall, openCall, readCall};
 ghost use Rattle.stores.specs.Allowance.{images};
+
+// The number of a refusal in the table.
+pub fn refusal_number(r: Refusal) -> u64
+    ensures { λ n. ⌜ n ≡ refusalNumber r ⌝ }
+{
+    match r {
+        Refusal::Geometry => 1,
+        Refusal::Buffers => 2,
+        Refusal::LostChip => 3,
+        Refusal::Records => 4,
+        Refusal::Spares => 5,
+        Refusal::Collection => 6,
+        Refusal::Request => 7,
+        Refusal::Data => 8,
+        Refusal::ChipSet => 9,
+        Refusal::Work => 10,
+    }
+}
 
 // Rows 1 and 2 of the table of refusals.
 fn buffers_check(g: Geometry, chips: &[u8], records: &[u8], slots: &[u8]) -> Check

@@ -3,7 +3,6 @@
 use layout::Geometry;
 use rules::Answer;
 use rules::Reading;
-use rules::Refusal;
 use stores::Counts;
 ghost use Prim.Native.Nat.{_<_};
 
@@ -28,21 +27,6 @@ fn say_number(x: u64) {
     io::print_decimal(1, x);
 }
 
-fn number_of(r: Refusal) -> u64 {
-    match r {
-        Refusal::Geometry => 1,
-        Refusal::Buffers => 2,
-        Refusal::LostChip => 3,
-        Refusal::Records => 4,
-        Refusal::Spares => 5,
-        Refusal::Collection => 6,
-        Refusal::Request => 7,
-        Refusal::Data => 8,
-        Refusal::ChipSet => 9,
-        Refusal::Work => 10,
-    }
-}
-
 fn say_counts(c: Counts) {
     say_number(c.reads);
     say_number(c.programs);
@@ -62,7 +46,7 @@ fn say_answer(a: Answer) {
         }
         Answer::Refused(r) => {
             say(b" refused");
-            say_number(number_of(r));
+            say_number(store::refusal_number(r));
         }
     }
     say(b"\n");
@@ -204,7 +188,7 @@ fn say_reading(answer: Reading) {
         }
         Reading::Refused(r) => {
             say(b" refused");
-            say_number(number_of(r));
+            say_number(store::refusal_number(r));
         }
     }
 }

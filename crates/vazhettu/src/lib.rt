@@ -22,24 +22,6 @@ pub struct Report {
     pub stores: u64,
 }
 
-// The number of a refusal in the table.
-fn number_of(r: Refusal) -> u64
-    ensures { λ n. ⌜ n ≡ refusalNumber r ⌝ }
-{
-    match r {
-        Refusal::Geometry => 1,
-        Refusal::Buffers => 2,
-        Refusal::LostChip => 3,
-        Refusal::Records => 4,
-        Refusal::Spares => 5,
-        Refusal::Collection => 6,
-        Refusal::Request => 7,
-        Refusal::Data => 8,
-        Refusal::ChipSet => 9,
-        Refusal::Work => 10,
-    }
-}
-
 // A report of an answer that has counts.
 fn with_counts(status: u64, c: Counts) -> Report
     ensures { λ r. ⌜ r ≡ reportOf status c ⌝ }
@@ -58,7 +40,7 @@ fn without_counts(r: Refusal) -> Report
     ensures { λ t. ⌜ t ≡ reportOf (refusalNumber r) (record { reads = 0; programs = 0; erases = 0; stores = 0 }) ⌝ }
 {
     Report {
-        status: number_of(r),
+        status: store::refusal_number(r),
         reads: 0,
         programs: 0,
         erases: 0,
