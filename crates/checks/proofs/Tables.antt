@@ -1,21 +1,21 @@
 -- The pass over the records: what is known once those below j are passed.
-use Prim.Native.Nat.{ℕ, _+_, _*_, _≤_, _<_}
+use Prim.Native.Nat.{ℕ, _+_, _*_, _≤_}
 use native.Mathlib.Numerals.{add-one}
 use native.Mathlib.Omega.{arith}
 use mathlib.Core.Path.{_≡_, refl, sym, ap}
-use mathlib.Core.Bool.{Bool, true, false, not, cond, _&&_, _||_, and-true, or-true, or-false}
+use mathlib.Core.Bool.{Bool, true, false, not, cond, _&&_, _||_, and-true}
 use mathlib.Core.List.{List}
-use lib.ListN.{length, getD, set, replicate, length-set, getD-replicate}
-use lib.Seq.{getD-set-same, getD-set-other}
+use lib.ListN.{getD, set, replicate}
 use lib.Dec.{eqb, leb}
-use borrow.Author.Tests.{eq-eqb, ne-eqb}
-use Rattle.units.specs.Look.{allBelow, someBelow, countBelow}
+use borrow.Author.Tests.{eq-eqb}
+use Rattle.units.specs.Look.{allBelow, countBelow}
 use Rattle.units.proofs.Looks.{by-same}
 use Rattle.units.proofs.Sums.{sum-start, sum-more}
 use Rattle.layout.specs.declared.Geometry.{Geometry}
 use Rattle.layout.specs.Layout.{layoutOf}
-use Rattle.layout.specs.Record.{Record, slotted, slotOf}
+use Rattle.layout.specs.Record.{Record, slotted}
 use Rattle.layout.specs.Collection.{Collection}
+use Rattle.layout.proofs.Marks.{Marks, marks-none, marks-more, marks-skip}
 use Rattle.rules.specs.Sound.{recordSound, ownSlot, soundAt, recordsSound, collectionSound}
 use Rattle.codec.specs.declared.StripeRecord.{StripeRecord}
 use Rattle.codec.specs.Views.{recordFrom, SmallRecord}
@@ -26,8 +26,7 @@ use Rattle.checks.specs.Plain.{Glanced}
 -- the flags, the table and the counts are those of the records below j: whether each is sound by itself and has its own slot, which slots
 -- they have, how many have one, and how many page numbers they have, at most 13 each
 pub record Passed (g : Geometry) (r : ℕ → Record) (j : ℕ) (seen : List Bool) (sound own : Bool) (count names : ℕ) : Type 0 where
-  pub long : length seen ≡ 256
-  pub marks : (i : ℕ) → i < 255 → getD seen i false ≡ someBelow j (slotOf r i)
+  pub table : Marks r j seen
   pub sounds : sound ≡ allBelow j (soundAt (layoutOf g) r)
   pub owns : own ≡ allBelow j (ownSlot r)
   pub counts : count ≡ countBelow j (slotted r)
@@ -36,11 +35,10 @@ pub record Passed (g : Geometry) (r : ℕ → Record) (j : ℕ) (seen : List Boo
 
 -- before the first record no slot is marked
 pub passed-start : {g : Geometry} {r : ℕ → Record} → Passed g r 0 (replicate 256 false) true true 0 0
-unfolding allBelow someBelow countBelow
+unfolding allBelow countBelow
 passed-start {g} {r} =
     record {
-      long = refl;
-      marks = λ i h. getD-replicate 256 i false false (omega arith);
+      table = marks-none;
       sounds = refl;
       owns = refl;
       counts = refl;
@@ -57,25 +55,17 @@ module _ {g : Geometry} {r : ℕ → Record} {j : ℕ} {seen : List Bool} {sound
   -- record j is plain
   pub passed-plain : {look : Glance} → Glanced (layoutOf g) (r j) look → look .plain ≡ true
       → Passed g r (j + 1) seen sound own count (names + look .names)
-  unfolding allBelow someBelow countBelow
+  unfolding allBelow countBelow
   passed-plain look t =
       let e = look .found t in
       record {
-        long = p .long;
-        marks = λ i h. rw (add-one, e .slotless, ne-eqb 255 i (omega arith), or-false) (p .marks i h);
+        table = marks-skip (p .table) (e .slotless);
         sounds = rw (add-one, e .sound, and-true) (p .sounds);
         owns = rw (add-one, e .slotless, and-true) (p .owns);
         counts = rw (add-one, e .slotless) (p .counts);
         named = more-names (e .counted);
         few = omega (arith, p .few, look .few);
       }
-
-  -- the table with the slot of record j marked
-  marked : {slot : ℕ} → slot ≡ r j .slot → (i : ℕ) → i < 255 → getD (set seen slot true) i false ≡ someBelow (j + 1) (slotOf r i)
-  unfolding someBelow
-  marked {slot} s i h = by-same i slot
-      (λ q. rw (add-one, q, getD-set-same seen slot true false (omega (arith, p .long)), eq-eqb (r j .slot) slot (sym s), or-true))
-      (λ d. rw (add-one, getD-set-other seen slot i true false d, ← s, ne-eqb slot i (λ q. d (sym q)), or-false) (p .marks i h))
 
   -- record j is looked at in full
   pub passed-next : {e : StripeRecord} {ok : Bool} {more next : ℕ}
@@ -89,12 +79,11 @@ module _ {g : Geometry} {r : ℕ → Record} {j : ℕ} {seen : List Bool} {sound
   passed-next {e} (same, small) o (m, most) n =
       let s : e .slot ≡ r j .slot = ap (λ (x : Record). x .slot) same in
       record {
-        long = rw length-set (p .long);
-        marks = marked s;
+        table = marks-more (p .table) s;
         sounds = rw (add-one, p .sounds, o, same);
         owns = by-same (e .slot) 255
             (λ q. rw (add-one, p .owns, ← s, eq-eqb (e .slot) 255 q))
-            (λ d. rw (add-one, p .owns, p .marks (e .slot) (omega (arith, small .slot)), s));
+            (λ d. rw (add-one, p .owns, p .table .told (e .slot) (omega (arith, small .slot)), s));
         counts = rw (add-one, n, p .counts, add-one, s);
         named = more-names (rw same at (m g));
         few = omega (arith, p .few);

@@ -5,12 +5,15 @@ use native.Mathlib.Decide.{decLt}
 use native.Mathlib.Omega.{arith}
 use mathlib.Core.Path.{_≡_, refl, fun-ext}
 use mathlib.Core.List.{List, [], _∷_}
-use lib.ListN.{getD, take, drop}
-use lib.Seq.{drop-drop}
+use lib.ListN.{length, getD, set, take, drop}
+use lib.Seq.{drop-drop, getD-set-same, getD-set-other}
 use borrow.Author.Tests.{lt-ltb, le-ltb}
 use Rattle.units.specs.Number.{number}
 use Rattle.units.specs.Units.{part, unit}
+use Rattle.units.specs.Update.{at}
+use Rattle.units.proofs.Looks.{by-same}
 use Rattle.units.proofs.Units.{part-unit, getD-unit}
+use Rattle.units.proofs.Updates.{at-unique}
 use Rattle.layout.specs.declared.Geometry.{Geometry}
 use Rattle.layout.specs.Layout.{Layout, layoutOf}
 use Rattle.layout.specs.Record.{sixFrom, recordOf, recordAt}
@@ -97,3 +100,16 @@ record-in g xs j h =
 pub six-in : (l : Layout) (xs : List ℕ) (m : ℕ) → m < 6 → sixOf l xs m ≡ getD xs m 0
 unfolding sixOf
 six-in l xs m h = rw (lt-ltb m 6 h)
+
+-- six numbers with one replaced
+pub six-set : (l : Layout) (xs : List ℕ) (m v : ℕ) → length xs ≡ 6 → m < 6 → sixOf l (set xs m v) ≡ at m v (sixOf l xs)
+unfolding sixOf
+six-set l xs m v e h =
+    at-unique m v (sixOf l xs) (sixOf l (set xs m v))
+    (rw (lt-ltb m 6 h, getD-set-same xs m v 0 (omega arith)))
+    (λ k d. rw (getD-set-other xs m k v 0 d))
+
+-- small numbers with one replaced stay small
+pub set-small : (xs : List ℕ) (m v : ℕ) → m < length xs → ((k : ℕ) → getD xs k 0 < 65536) → v < 65536 → (k : ℕ) → getD (set xs m v) k 0 < 65536
+set-small xs m v inside small h k =
+    by-same k m (λ e. rw (e, getD-set-same xs m v 0 inside) h) (λ d. rw (getD-set-other xs m k v 0 d) (small k))

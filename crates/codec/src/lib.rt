@@ -156,6 +156,22 @@ pub fn record_at(records: &[u8], g: Geometry, j: usize) -> StripeRecord
     }
 }
 
+// The bitmap of stripe j.
+pub fn bitmap_at(records: &[u8], g: Geometry, j: usize) -> usize
+    requires { ⌜ RecordsFit g (now records) × (j < g .s) ⌝ }
+    ensures { λ r. ⌜ (r ≡ recordAt (layoutOf g) (now (records .entry)) j .bitmap) × (r < 256) ⌝ }
+{
+    byte(records, j * 32 + 26)
+}
+
+// The slot of stripe j.
+pub fn slot_at(records: &[u8], g: Geometry, j: usize) -> usize
+    requires { ⌜ RecordsFit g (now records) × (j < g .s) ⌝ }
+    ensures { λ r. ⌜ (r ≡ recordAt (layoutOf g) (now (records .entry)) j .slot) × (r < 256) ⌝ }
+{
+    byte(records, j * 32 + 27)
+}
+
 // The collection record, but for the zeros behind it.
 pub fn collection_at(records: &[u8], g: Geometry) -> CollectionRecord
     requires { ⌜ RecordsFit g (now records) ⌝ }

@@ -1,4 +1,5 @@
-pub mod Statements
+pub mod Underway
 pub mod Repointing
 pub mod Dues
 pub mod Moves
+pub mod Rooms

@@ -5,7 +5,7 @@ use mathlib.Core.Path.{_≡_, refl, sym, _∙_}
 use mathlib.Core.Logic.{_≢_}
 use mathlib.Core.Bool.{Bool, true, false}
 use mathlib.Core.List.{List, [], _∷_}
-use lib.ListN.{length, replicate, length-replicate}
+use lib.ListN.{length}
 use borrow.Author.Tests.{eq-eqb, ne-eqb}
 use Rattle.layout.specs.declared.Geometry.{Geometry}
 use Rattle.layout.specs.Layout.{Layout, layoutOf, pages, pageIn}
@@ -29,8 +29,9 @@ use Rattle.codec.specs.declared.CollectionRecord.{CollectionRecord}
 use Rattle.codec.specs.declared.StripeRecord.{StripeRecord}
 use Rattle.codec.specs.declared.Spare.{Spare}
 use Rattle.codec.specs.Views.{recordFrom, spareOf, CollectionIs}
-use Rattle.collect.specs.Checked.{Checked}
-use Rattle.collect.proofs.Statements.{Working, within, usable, stripes, working, chip-is-sound, sound, checked}
+use Rattle.names.specs.Checked.{Checked}
+use Rattle.names.proofs.Statements.{some-slots, within, usable, stripes, chip-is-sound, sound, checked}
+use Rattle.collect.proofs.Underway.{Working, working}
 
 -- ---- the move of one place
 
@@ -88,10 +89,6 @@ module _ (g : Geometry) (chips records : List ℕ) (h : Checked g chips records)
     one-move n new zs = rw (sym due-there ∙ e, new, spare, is .chip, is .destination)
 
 -- ---- all places
-
--- there are slots of their length
-pub some-slots : (l : Layout) → (zs : List ℕ) × (length zs ≡ slotsLength l)
-some-slots l = (replicate {A = ℕ} (slotsLength l) 0, length-replicate {A = ℕ} (slotsLength l) 0)
 
 -- sound images stay so through the moves, and the collection record stays
 moved-sound : (l : Layout) → Usable l → (s t : Images) → Sound l s → collectionAt l (s .records) .phase ≡ 2 → (i : ℕ) → i ≤ l .K

@@ -3,37 +3,20 @@ use Prim.Native.Nat.{ℕ, _<_}
 use native.Mathlib.Omega.{arith}
 use mathlib.Core.Path.{_≡_}
 use mathlib.Core.Logic.{_≢_}
-use mathlib.Core.List.{List}
 use lib.ListN.{length, getD, set}
-use lib.Seq.{getD-set-same, getD-set-other}
 use lib.Dec.{eqb}
-use borrow.Author.Tests.{lt-ltb, eq-eqb, ne-eqb}
-use Rattle.units.specs.Update.{at}
-use Rattle.units.proofs.Looks.{by-test, by-same}
-use Rattle.units.proofs.Updates.{at-unique}
+use borrow.Author.Tests.{eq-eqb, ne-eqb}
+use Rattle.units.proofs.Looks.{by-test}
 use Rattle.layout.specs.Layout.{Layout}
 use Rattle.layout.specs.Rotation.{parityChip, memberOn}
 use Rattle.rules.specs.Open.{moved, repointed}
 use Rattle.codec.specs.declared.StripeRecord.{StripeRecord}
-use Rattle.codec.proofs.Encodings.{six-in}
-use Rattle.codec.specs.Views.{sixOf, recordFrom, SmallRecord}
-
--- six numbers with one replaced
-six-set : (l : Layout) (xs : List ℕ) (m v : ℕ) → length xs ≡ 6 → m < 6 → sixOf l (set xs m v) ≡ at m v (sixOf l xs)
-unfolding sixOf
-six-set l xs m v e h =
-    at-unique m v (sixOf l xs) (sixOf l (set xs m v))
-    (rw (lt-ltb m 6 h, getD-set-same xs m v 0 (omega arith)))
-    (λ k d. rw (getD-set-other xs m k v 0 d))
+use Rattle.codec.proofs.Encodings.{six-in, six-set, set-small}
+use Rattle.codec.specs.Views.{recordFrom, SmallRecord}
 
 -- a number in place of another stays small
 moved-small : (p q x : ℕ) → x < 65536 → q < 65536 → moved p q x < 65536
 moved-small p q x hx hq = by-test (eqb x p) (λ e. rw e hq) (λ e. rw e hx)
-
--- and so do numbers with one replaced
-set-small : (xs : List ℕ) (m v : ℕ) → m < length xs → ((k : ℕ) → getD xs k 0 < 65536) → v < 65536 → (k : ℕ) → getD (set xs m v) k 0 < 65536
-set-small xs m v inside small h k =
-    by-same k m (λ e. rw (e, getD-set-same xs m v 0 inside) h) (λ d. rw (getD-set-other xs m k v 0 d) (small k))
 
 module _ (l : Layout) (e : StripeRecord) (c j p q : ℕ) (small : SmallRecord e) (fits : q < 65536) where
   -- on the chip of the parity

@@ -1,4 +1,4 @@
-//! The end of a collection: what open does of one that was cut, and a collection of its own.
+//! Collections: the end of one, which is also what open does of one that was cut; a whole one; room on a chip.
 
 use codec::CollectionRecord;
 use codec::StripeRecord;
@@ -6,28 +6,36 @@ use codec::collection_at;
 use codec::parity_chip;
 use codec::record_at;
 use codec::spare_at;
+use copying::copy_block;
 use device::erase;
 use device::store_collection;
 use device::store_record;
 use layout::Geometry;
 use names::named_at;
+use space::clean_block_on;
+use space::place_on;
+use space::victim_on;
 use stores::Progress;
+use units::Found;
 ghost use mathlib.Core.Path.{_≡_};
 ghost use mathlib.Core.Bool.{true};
 ghost use mathlib.Core.List.{List};
 ghost use Prim.Native.Nat.{ℕ, _≤_, _<_};
 ghost use lib.ListN.{length};
+ghost use Rattle.units.specs.declared.Found.the-variants.{At};
 ghost use Rattle.layout.specs.Layout.{layoutOf, limits, pages};
 ghost use Rattle.layout.specs.Page.{pageAt};
 ghost use Rattle.layout.specs.Record.{recordAt};
 ghost use Rattle.layout.specs.Collection.{collectionAt};
 ghost use Rattle.layout.specs.Images.{slotsLength};
 ghost use Rattle.rules.specs.Open.{moved as movedTo, repointed, due, ending, moveSteps, finishSteps};
+ghost use Rattle.rules.specs.Collect.{victimOf, collectSteps};
+ghost use Rattle.rules.specs.Place.{roomSteps};
 ghost use Rattle.stores.specs.Steps.{thenBelow};
 ghost use Rattle.codec.specs.Fit.{ChipsFit, RecordsFit};
 ghost use Rattle.codec.specs.Views.{recordFrom, CollectionIs, SmallRecord};
 ghost use Rattle.stores.specs.Allowance.{Sane, Ran, images};
-ghost use Rattle.collect.specs.Checked.{Checked};
+ghost use Rattle.names.specs.Checked.{Checked, Settled};
 
 // Number q where it was p.
 fn moved(x: usize, p: usize, q: usize) -> usize
@@ -168,4 +176,54 @@ pub fn finish(chips: &mut [u8], records: &mut [u8], g: Geometry, p: Progress) ->
         return end(chips, records, g, co.chip, co.victim, moves);
     }
     p
+}
+
+// Collects chip c, whose victim is block v.
+pub fn collect_chip(
+    chips: &mut [u8],
+    records: &mut [u8],
+    g: Geometry,
+    c: usize,
+    v: usize,
+    p: Progress,
+) -> Progress
+    requires { ⌜ Settled g (now chips) (now records) × (c ≤ g .n) × Sane p
+        × (victimOf (layoutOf g) c (pageAt (layoutOf g) (now chips) c) (recordAt (layoutOf g) (now records)) ≡ At v) ⌝ }
+    ensures { λ r. ⌜ ((zs : List ℕ) → length zs ≡ slotsLength (layoutOf g) → Ran (layoutOf g) p
+        (collectSteps (layoutOf g) c (images (now (chips .entry)) (now (records .entry)) zs))
+        r (images (now (chips .entry)) (now (records .entry)) zs) (images (now (chips .exit)) (now (records .exit)) zs)) ⌝ }
+{
+    match clean_block_on(chips, g, c) {
+        Found::At(d) => {
+            let run = copy_block(chips, records, g, c, v, d, p);
+            // past a cut there is no phase 2 to finish
+            if run.cut {
+                return run;
+            }
+            finish(chips, records, g, run)
+        }
+        Found::Nothing => p,
+    }
+}
+
+// Collects chip c where it has no place.
+pub fn make_room(
+    chips: &mut [u8],
+    records: &mut [u8],
+    g: Geometry,
+    c: usize,
+    p: Progress,
+) -> Progress
+    requires { ⌜ Settled g (now chips) (now records) × (c ≤ g .n) × Sane p ⌝ }
+    ensures { λ r. ⌜ ((zs : List ℕ) → length zs ≡ slotsLength (layoutOf g) → Ran (layoutOf g) p
+        (roomSteps (layoutOf g) c (images (now (chips .entry)) (now (records .entry)) zs))
+        r (images (now (chips .entry)) (now (records .entry)) zs) (images (now (chips .exit)) (now (records .exit)) zs)) ⌝ }
+{
+    if let Found::At(_) = place_on(chips, g, c) {
+        return p;
+    }
+    match victim_on(chips, records, g, c) {
+        Found::At(v) => collect_chip(chips, records, g, c, v, p),
+        Found::Nothing => p,
+    }
 }

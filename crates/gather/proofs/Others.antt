@@ -34,7 +34,7 @@ current-in g e m q h = rw (← q) (six-in (layoutOf g) (e .current) m h)
 
 module _ (g : Geometry) (i : ℕ) where
   -- six that are none
-  nones : sixOf (layoutOf g) (replicate 6 65535) i ≡ 65535
+  pub nones : sixOf (layoutOf g) (replicate 6 65535) i ≡ 65535
   nones = by-order i 6 (λ low. rw (six-in (layoutOf g) (replicate 6 65535) i low) (getD-replicate 6 i 65535 0 low)) (six-beyond g (replicate 6 65535) i)
 
   -- six without number m

@@ -1,28 +1,26 @@
 -- Six page numbers chosen one by one, the pages of a stripe XORed member by member, and the front of the work page.
 use Prim.Native.Nat.{ℕ, _+_, _-_, _≤_, _<_}
 use native.Mathlib.Numerals.{add-one}
-use native.Mathlib.Nat.{sub-zero}
 use native.Mathlib.Omega.{arith}
 use mathlib.Core.Path.{_≡_, refl}
 use mathlib.Core.Logic.{_≢_}
 use mathlib.Core.Bool.{true, false, cond}
 use mathlib.Core.List.{List, _++_}
-use lib.ListN.{length, getD, set, take, drop, replicate, length-append, length-set, length-replicate}
-use lib.Seq.{getD-set-same, getD-set-other, take-at}
+use lib.ListN.{length, getD, set, take, drop, replicate, length-set}
+use lib.Seq.{getD-set-same, getD-set-other}
 use borrow.Author.Tests.{eq-eqb, ne-eqb, le-ltb}
 use Rattle.units.specs.Look.{countBelow}
-use Rattle.units.specs.Units.{part}
 use Rattle.units.specs.Xor.{_⊕_, xorBelow}
 use Rattle.units.proofs.Looks.{at-last, by-order}
 use Rattle.units.proofs.Tests.{cond-same}
 use Rattle.units.proofs.Counts.{count-le}
-use Rattle.units.proofs.Units.{part-replicate}
 use Rattle.units.proofs.Xors.{xors-assoc, xor-nil-r, length-xors-left, xors-zeros-l}
 use Rattle.layout.specs.declared.Geometry.{Geometry}
 use Rattle.layout.specs.Layout.{layoutOf, none}
 use Rattle.layout.specs.Rotation.{memberChip}
 use Rattle.layout.proofs.Bits.{testBit}
 use Rattle.layout.specs.Page.{pageAt}
+use Rattle.slices.proofs.Work.{front-back}
 use Rattle.rules.specs.Gather.{bytesAt, memberBytes, isPage, gathered, gatheredReads}
 use Rattle.rules.specs.Read.{Fetched}
 use Rattle.codec.specs.Views.{sixOf}
@@ -143,15 +141,10 @@ module _ {g : Geometry} {chips : List ℕ} {j : ℕ} {numbers work₀ : List ℕ
 
 -- ---- the work page
 
--- its first bytes are zeros
-pub front-zeros : (w n : ℕ) → w ≤ n → take {A = ℕ} (w - 0) (replicate n 0) ≡ replicate w 0
-unfolding part
-front-zeros w n h = rw sub-zero (part-replicate 0 w n 0 (omega arith))
-
--- where ys comes back as its first w bytes, they are ys
-pub front-back : (w n : ℕ) → w ≤ n → {ys xs : List ℕ} {k reads : ℕ} {f : Fetched} → length ys ≡ length (take {A = ℕ} (w - 0) (replicate n 0))
+-- where a rebuilt page comes back as its first w bytes, they are that page
+pub front-fetched : (w n : ℕ) → w ≤ n → {ys xs : List ℕ} {k reads : ℕ} {f : Fetched} → length ys ≡ length (take {A = ℕ} (w - 0) (replicate n 0))
     → xs ≡ ys ++ drop (w - 0) (replicate n 0) → k ≡ reads → record { bytes = ys; reads = reads } ≡ f
     → (w ≤ length xs) × (record { bytes = take (w - 0) xs; reads = k } ≡ f)
-front-back w n h {ys} same e q known =
-    let long : length ys ≡ w = rw (front-zeros w n h, length-replicate) at same in
-    rw (e, q, sub-zero) (rw length-append (omega arith), rw (take-at ys (drop w (replicate n 0)) w long) known)
+front-fetched w n h {ys} same e q known =
+    let (long, front) = front-back w n h {ys = ys} same e in
+    (long, rw (front, q) known)

@@ -51,7 +51,7 @@ pub fn gather(work: &mut [u8], chips: &[u8], g: Geometry, j: usize, numbers: [us
 }
 
 // The numbers of the members in the bitmap, from inside, and those of the others, from outside.
-fn chosen(bitmap: usize, inside: [usize; 6], outside: [usize; 6]) -> [usize; 6]
+pub fn chosen(bitmap: usize, inside: [usize; 6], outside: [usize; 6]) -> [usize; 6]
     ensures { λ r. ⌜ ((g : Geometry) (i : ℕ) → sixOf (layoutOf g) r i
         ≡ cond (eqb (bitmap / 2 ^ i % 2) 1) (sixOf (layoutOf g) inside i) (sixOf (layoutOf g) outside i)) ⌝ }
 {

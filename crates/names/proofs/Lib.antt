@@ -1,3 +1,4 @@
 pub mod Readings
 pub mod Stamping
+pub mod Statements
 pub mod Totals

@@ -33,10 +33,14 @@ module _ (l : Layout) where
       (whenFound (lowestCleanBlock l x) (λ b. At (pageIn l b 0)) Nothing)
       Nothing)
 
-  -- what f does at the place on chip c, or else the other
-  unfoldable pub atPlace : ℕ → (ℕ → Images → List Step) → List Step → Images → List Step
-  atPlace c f other s = whenFound (placeOf (pageAt l (s .chips) c)) (λ p. f p s) other
+  -- "else collect": what is done before the place is there
+  unfoldable pub roomSteps : ℕ → Images → List Step
+  roomSteps c s = whenFound (placeOf (pageAt l (s .chips) c)) (λ p. []) (collectSteps l c s)
 
-  -- "else collect, then look again"
+  -- what f does at the place on chip c
+  unfoldable pub atPlace : ℕ → (ℕ → Images → List Step) → Images → List Step
+  atPlace c f s = whenFound (placeOf (pageAt l (s .chips) c)) (λ p. f p s) []
+
+  -- "then look again"
   unfoldable pub placed : ℕ → (ℕ → Images → List Step) → Images → List Step
-  placed c f s = atPlace c f (andThen l (collectSteps l c s) (atPlace c f []) s) s
+  placed c f s = andThen l (roomSteps c s) (atPlace c f) s

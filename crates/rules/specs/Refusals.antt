@@ -80,29 +80,30 @@ module _ (l : Layout) where
   readCheck s lost page buffer =
       imagesCheck s lost (unless (ltb page (N * S)) Request (unless (eqb (length buffer) W) Data Passed))
 
-  -- write: "phase not 0", "page .. too high", "not W bytes", "a chip is lost"
+  -- rows 1 to 6, of write, commit and collect
+  unfoldable pub settledCheck : Images → ℕ → Check → Check
+  settledCheck s lost below = imagesCheck s lost (unless (atRest s) Collection below)
+
+  -- write: then "page .. too high", "not W bytes", "a chip is lost"
   unfoldable pub writeCheck : Images → ℕ → ℕ → List ℕ → Check
   writeCheck s lost page xs =
-      imagesCheck s lost
-      (unless (atRest s) Collection
+      settledCheck s lost
       (unless (ltb page (N * S)) Request
       (unless (eqb (length xs) W) Data
-      (unless (eqb lost noChip) ChipSet Passed))))
+      (unless (eqb lost noChip) ChipSet Passed)))
 
-  -- "no slot"
+  -- commit: then "stripe .. too high", "a chip is lost", "no slot"
   unfoldable pub commitCheck : Images → ℕ → ℕ → Check
   commitCheck s lost j =
-      imagesCheck s lost
-      (unless (atRest s) Collection
+      settledCheck s lost
       (unless (ltb j S) Request
       (unless (eqb lost noChip) ChipSet
-      (unless (hasSlot (recordAt l (s .records) j)) Work Passed))))
+      (unless (hasSlot (recordAt l (s .records) j)) Work Passed)))
 
-  -- "no full block with an unnamed page"
+  -- collect: then "chip too high", "a chip is lost", "no full block with an unnamed page"
   unfoldable pub collectCheck : Images → ℕ → ℕ → Check
   collectCheck s lost c =
-      imagesCheck s lost
-      (unless (atRest s) Collection
+      settledCheck s lost
       (unless (leb c N) Request
       (unless (eqb lost noChip) ChipSet
-      (unless (whenFound (victimOf l c (pageAt l (s .chips) c) (recordAt l (s .records))) (λ b. true) false) Work Passed))))
+      (unless (whenFound (victimOf l c (pageAt l (s .chips) c) (recordAt l (s .records))) (λ b. true) false) Work Passed)))

@@ -28,7 +28,8 @@ use Rattle.codec.specs.Views.{CollectionIs}
 use Rattle.names.specs.Stamps.{stamped, TagsPass}
 use Rattle.units.proofs.Tallies.{same-tests}
 use Rattle.spares.specs.declared.Scan.{Scan}
-use Rattle.spares.specs.Scans.{chipScan, phaseSound, RecordsPass}
+use Rattle.names.specs.Checked.{RecordsPass}
+use Rattle.spares.specs.Scans.{chipScan, phaseSound}
 use Rattle.names.proofs.Totals.{foundOn, taggedOrLost, namesKept, total-tags}
 
 -- ---- tests

@@ -9,16 +9,14 @@ use lib.Dec.{eqb, ltb}
 use Rattle.units.specs.Number.{number}
 use Rattle.units.specs.Units.{part}
 use Rattle.units.specs.Look.{allBelow, someBelow, countBelow}
-use Rattle.layout.specs.declared.Geometry.{Geometry}
-use Rattle.layout.specs.Layout.{Layout, layoutOf, pages, pageIn}
+use Rattle.layout.specs.Layout.{Layout, pages, pageIn}
 use Rattle.layout.specs.Page.{Page}
-use Rattle.layout.specs.Record.{Record, recordAt}
-use Rattle.layout.specs.Collection.{Collection, collectionAt}
+use Rattle.layout.specs.Record.{Record}
+use Rattle.layout.specs.Collection.{Collection}
 use Rattle.layout.specs.Rotation.{parityChip, memberOn}
 use Rattle.rules.specs.Names.{kindOn, memberTag}
 use Rattle.rules.specs.Blocks.{cleanBlock, orderedBlock}
-use Rattle.rules.specs.Sound.{phase1Sound, phase2Sound, recordsSound}
-use Rattle.codec.specs.Fit.{RecordsFit}
+use Rattle.rules.specs.Sound.{phase1Sound, phase2Sound}
 use Rattle.names.specs.Stamps.{stamped}
 use Rattle.spares.specs.declared.Scan.{Scan}
 use Rattle.spares.specs.declared.Shape.{Shape}
@@ -95,8 +93,3 @@ module _ (l : Layout) where
   phaseSound r x co =
       cond (eqb (co .phase) 1) (phase1Sound l r (co .chip) (co .destination))
       (cond (eqb (co .phase) 2) (phase2Sound l r x (co .chip) (co .victim) (co .destination)) true)
-
--- the records are sound, as row 4 has shown
-pub record RecordsPass (g : Geometry) (records : List ℕ) : Type 0 where
-  pub fit : RecordsFit g records
-  pub pass : recordsSound (layoutOf g) (recordAt (layoutOf g) records) (collectionAt (layoutOf g) records) ≡ true

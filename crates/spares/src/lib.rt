@@ -24,8 +24,9 @@ ghost use Rattle.layout.specs.Collection.{collectionAt};
 ghost use Rattle.rules.specs.Sound.{phase1Sound, twinIn, phase2Sound, sparesSound};
 ghost use Rattle.codec.specs.Fit.{ChipsFit, RecordsFit};
 ghost use Rattle.codec.specs.Views.{CollectionIs};
+ghost use Rattle.names.specs.Checked.{RecordsPass};
 ghost use Rattle.names.specs.Stamps.{namesIn, TagsPass};
-ghost use Rattle.spares.specs.Scans.{TagIs, stampedIn, StampsOf, fieldOf, FieldsOf, FieldsFit, hasNumber, shapeOf, blockScan, chipScan, phaseSound, RecordsPass};
+ghost use Rattle.spares.specs.Scans.{TagIs, stampedIn, StampsOf, fieldOf, FieldsOf, FieldsFit, hasNumber, shapeOf, blockScan, chipScan, phaseSound};
 
 // What a pass over the spares of a block or of a chip brings.
 pub struct Scan {
@@ -208,7 +209,7 @@ fn shape_of(g: Geometry, tags: &[u16; 128]) -> Shape
 }
 
 // One look at each page's spare of block b of chip c.
-fn scan_block(chips: &[u8], records: &[u8], g: Geometry, c: usize, b: usize) -> Scan
+pub fn scan_block(chips: &[u8], records: &[u8], g: Geometry, c: usize, b: usize) -> Scan
     requires { ⌜ ChipsFit g (now chips) × RecordsFit g (now records) × (c ≤ g .n) × (b < g .b) ⌝ }
     ensures { λ r. ⌜ r ≡ blockScan (layoutOf g) (recordAt (layoutOf g) (now (records .entry))) (pageAt (layoutOf g) (now (chips .entry)) c) c b ⌝ }
 {

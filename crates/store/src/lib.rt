@@ -4,6 +4,8 @@ use checks::geometry_passes;
 use checks::lengths_pass;
 use checks::scan_records;
 use codec::collection_at;
+use codec::slot_at;
+use collect::collect_chip;
 use collect::finish;
 use device::start;
 use formatting::format_all;
@@ -13,16 +15,20 @@ use rules::Answer;
 use rules::Check;
 use rules::Reading;
 use rules::Refusal;
+use space::victim_on;
 use spares::spares_pass;
 use stores::Counts;
 use stores::Progress;
+use units::Found;
+use updates::commit_stripe;
+use updates::write_member;
 ghost use mathlib.Core.Path.{_≡_};
 ghost use mathlib.Core.Bool.{cond};
 ghost use Rattle.layout.specs.Layout.{layoutOf};
 ghost use Rattle.rules.specs.declared.Check.the-variants.{Passed};
 ghost use Rattle.rules.specs.declared.Answer.the-variants.{Cut, Done};
-ghost use Rattle.rules.specs.Refusals.{refusalNumber, buffersCheck, imagesCheck};
-ghost use Rattle.rules.specs.Calls.{Outcome, ReadOutcome, formatCall, openCall, readCall};
+ghost use Rattle.rules.specs.Refusals.{refusalNumber, buffersCheck, imagesCheck, settledCheck};
+ghost use Rattle.rules.specs.Calls.{Outcome, ReadOutcome, formatCall, openCall, writeCall, commitCall, collectCall, readCall};
 ghost use Rattle.stores.specs.Allowance.{images};
 
 // The number of a refusal in the table.
@@ -75,6 +81,21 @@ fn images_check(g: Geometry, chips: &[u8], records: &[u8], slots: &[u8], lost: u
     let co = collection_at(records, g);
     if !spares_pass(chips, records, g, co, scan.names, lost) {
         return Check::Failed(Refusal::Spares);
+    }
+    Check::Passed
+}
+
+// Rows 1 to 6.
+fn settled_check(g: Geometry, chips: &[u8], records: &[u8], slots: &[u8], lost: usize) -> Check
+    ensures { λ r. ⌜ r ≡ settledCheck (layoutOf g) (images (now (chips .entry)) (now (records .entry)) (now (slots .entry))) lost Passed ⌝ }
+{
+    let first = images_check(g, chips, records, slots, lost);
+    if let Check::Failed(r) = first {
+        return Check::Failed(r);
+    }
+    let co = collection_at(records, g);
+    if co.phase != 0 {
+        return Check::Failed(Refusal::Collection);
     }
     Check::Passed
 }
@@ -166,4 +187,99 @@ pub fn read(
         erases: 0,
         stores: 0,
     })
+}
+
+// Writes a page.
+pub fn write(
+    g: Geometry,
+    chips: &mut [u8],
+    records: &mut [u8],
+    slots: &mut [u8],
+    lost: u64,
+    page: u64,
+    bytes: &[u8],
+    allowance: u64,
+) -> Answer
+    ensures { λ r. ⌜ _≡_ {A = Outcome}
+        (record { answer = r; images = images (now (chips .exit)) (now (records .exit)) (now (slots .exit)) })
+        (writeCall (layoutOf g) (images (now (chips .entry)) (now (records .entry)) (now (slots .entry))) lost page (now (bytes .entry)) allowance) ⌝ }
+{
+    let check = settled_check(g, chips, records, slots, lost as usize);
+    if let Check::Failed(r) = check {
+        return Answer::Refused(r);
+    }
+    if g.n * g.s <= page {
+        return Answer::Refused(Refusal::Request);
+    }
+    if bytes.len() != g.w as usize {
+        return Answer::Refused(Refusal::Data);
+    }
+    if lost != 255 {
+        return Answer::Refused(Refusal::ChipSet);
+    }
+    let j = (page / g.n) as usize;
+    let m = (page % g.n) as usize;
+    answer(write_member(chips, records, slots, g, j, m, bytes, start(allowance)))
+}
+
+// Commits a stripe: its partial parity becomes a parity page, and its slot is free.
+pub fn commit(
+    g: Geometry,
+    chips: &mut [u8],
+    records: &mut [u8],
+    slots: &[u8],
+    lost: u64,
+    stripe: u64,
+    allowance: u64,
+) -> Answer
+    ensures { λ r. ⌜ _≡_ {A = Outcome}
+        (record { answer = r; images = images (now (chips .exit)) (now (records .exit)) (now (slots .entry)) })
+        (commitCall (layoutOf g) (images (now (chips .entry)) (now (records .entry)) (now (slots .entry))) lost stripe allowance) ⌝ }
+{
+    let check = settled_check(g, chips, records, slots, lost as usize);
+    if let Check::Failed(r) = check {
+        return Answer::Refused(r);
+    }
+    if g.s <= stripe {
+        return Answer::Refused(Refusal::Request);
+    }
+    if lost != 255 {
+        return Answer::Refused(Refusal::ChipSet);
+    }
+    let j = stripe as usize;
+    if slot_at(records, g, j) == 255 {
+        return Answer::Refused(Refusal::Work);
+    }
+    answer(commit_stripe(chips, records, slots, g, j, start(allowance)))
+}
+
+// Collects a chip: one full block becomes clean.
+pub fn collect(
+    g: Geometry,
+    chips: &mut [u8],
+    records: &mut [u8],
+    slots: &[u8],
+    lost: u64,
+    chip: u64,
+    allowance: u64,
+) -> Answer
+    ensures { λ r. ⌜ _≡_ {A = Outcome}
+        (record { answer = r; images = images (now (chips .exit)) (now (records .exit)) (now (slots .entry)) })
+        (collectCall (layoutOf g) (images (now (chips .entry)) (now (records .entry)) (now (slots .entry))) lost chip allowance) ⌝ }
+{
+    let check = settled_check(g, chips, records, slots, lost as usize);
+    if let Check::Failed(r) = check {
+        return Answer::Refused(r);
+    }
+    if g.n < chip {
+        return Answer::Refused(Refusal::Request);
+    }
+    if lost != 255 {
+        return Answer::Refused(Refusal::ChipSet);
+    }
+    let c = chip as usize;
+    match victim_on(chips, records, g, c) {
+        Found::At(v) => answer(collect_chip(chips, records, g, c, v, start(allowance))),
+        Found::Nothing => Answer::Refused(Refusal::Work),
+    }
 }

@@ -10,7 +10,7 @@ use lib.ListN.{length, take, length-append}
 use lib.Seq.{take-all, take-nil, take-append-le, take-append-add}
 use lib.Dec.{ltb}
 use borrow.Author.Tests.{lt-ltb, le-ltb}
-use Rattle.units.proofs.Looks.{at-last, by-order, both}
+use Rattle.units.proofs.Looks.{at-last, by-order, by-test, both}
 use Rattle.units.proofs.Tests.{or-right}
 use Rattle.layout.specs.Layout.{Layout}
 use Rattle.layout.specs.Images.{Images}
@@ -160,6 +160,11 @@ module _ (l : Layout) where
       (λ e c. ran-append p q r xs (f (applyAll l xs s)) s t u first (ran-still q r (f t) (f (applyAll l xs s)) t u e c second))
       (λ e. ran-append p q r xs (f (applyAll l xs s)) s t u first (rw (← e) second))
 
+  -- where the first is cut, that is all
+  pub ran-then-cut : (p q : Progress) (xs : List Step) (f : Images → List Step) (s t : Images) → Ran l p xs q s t → q .cut ≡ true → Ran l p (andThen l xs f s) q s t
+  ran-then-cut p q xs f s t first c =
+      ran-then p q q xs f s t t first (ran-still q q [] (f t) t t (first .sane .spent c) c (ran-none q t (first .sane)))
+
   -- lists below n, one more
   pub ran-below : (p q r : Progress) (f : ℕ → List Step) (n : ℕ) (s t u : Images) → Ran l p (stepsBelow n f) q s t → Ran l q (f n) r t u
       → Ran l p (stepsBelow (n + 1) f) r s u
@@ -175,6 +180,25 @@ module _ (l : Layout) where
   -- what is not cut is the whole list
   pub ran-whole : (p q : Progress) (xs : List Step) (s t : Images) → Ran l p xs q s t → q .cut ≡ false → t ≡ applyAll l xs s
   ran-whole p q xs s t h e = by-end p q xs s t h (λ _ c. both (q .cut) c e) (λ w. w)
+
+  -- what is not cut was not cut before
+  pub ran-going : (p q : Progress) (xs : List Step) (s t : Images) → Ran l p xs q s t → q .cut ≡ false → p .cut ≡ false
+  unfolding after
+  ran-going p q xs s t h e = by-test (p .cut) (λ c. both (q .cut) (rw (h .progress, c)) e) (λ c. c)
+
+  -- what is cut makes no store of a longer list
+  pub ran-longer : (p q : Progress) (xs ys : List Step) (s t : Images) → Ran l p xs q s t → q .cut ≡ true → Ran l p (xs ++ ys) q s t
+  ran-longer p q xs ys s t h c =
+      ran-append p q q xs ys s t t h (ran-still q q [] ys t t (h .sane .spent c) c (ran-none q t (h .sane)))
+
+  -- nor of more lists
+  pub ran-below-cut : (p q : Progress) (f : ℕ → List Step) (i n : ℕ) (s t : Images) → i ≤ n → q .cut ≡ true → Ran l p (stepsBelow i f) q s t
+      → Ran l p (stepsBelow n f) q s t
+  unfolding stepsBelow
+  ran-below-cut p q f i zero s t low c h = let e : i ≡ 0 = omega arith in rw e at h
+  ran-below-cut p q f i (suc n) s t low c h = at-last i (suc n) (omega arith)
+      (λ less. ran-longer p q (stepsBelow n f) (f n) s t (ran-below-cut p q f i n s t (omega arith) c h) c)
+      (λ e. rw e at h)
 
   -- what is cut in the first lists makes no store of the lists after them
   pub ran-cut : (p q : Progress) (f : ℕ → Images → List Step) (i n : ℕ) (s t : Images) → i ≤ n → q .cut ≡ true → Ran l p (thenBelow l i f s) q s t

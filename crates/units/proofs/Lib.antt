@@ -1,4 +1,5 @@
 pub mod Counts
+pub mod Leasts
 pub mod Looks
 pub mod Numbers
 pub mod Sums

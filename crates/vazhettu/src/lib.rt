@@ -9,7 +9,7 @@ ghost use mathlib.Core.Path.{_≡_};
 ghost use Rattle.layout.specs.Layout.{layoutOf};
 ghost use Rattle.stores.specs.Allowance.{images};
 ghost use Rattle.rules.specs.Refusals.{refusalNumber};
-ghost use Rattle.rules.specs.Calls.{formatCall, openCall, readCall};
+ghost use Rattle.rules.specs.Calls.{formatCall, openCall, writeCall, commitCall, collectCall, readCall};
 ghost use Rattle.vazhettu.specs.Reports.{reportOf, reported, readReported, Reported, reportedOf, ReadReported, readReportedOf};
 
 // 0 for done, 255 for cut, or the number of the refusal; and the counts.
@@ -118,4 +118,59 @@ pub extern "C" fn vazhettu_read(
         (readReportedOf (readCall (layoutOf g) (images (now (chips .entry)) (now (records .entry)) (now (slots .entry))) lost page (now (buffer .entry)))) ⌝ }
 {
     read_report_of(store::read(g, chips, records, slots, lost, page, buffer))
+}
+
+// See store::write.
+#[no_mangle]
+pub extern "C" fn vazhettu_write(
+    g: Geometry,
+    chips: &mut [u8],
+    records: &mut [u8],
+    slots: &mut [u8],
+    lost: u64,
+    page: u64,
+    bytes: &[u8],
+    allowance: u64,
+) -> Report
+    ensures { λ r. ⌜ _≡_ {A = Reported}
+        (record { report = r; images = images (now (chips .exit)) (now (records .exit)) (now (slots .exit)) })
+        (reportedOf (writeCall (layoutOf g) (images (now (chips .entry)) (now (records .entry)) (now (slots .entry))) lost page (now (bytes .entry)) allowance)) ⌝ }
+{
+    report_of(store::write(g, chips, records, slots, lost, page, bytes, allowance))
+}
+
+// See store::commit.
+#[no_mangle]
+pub extern "C" fn vazhettu_commit(
+    g: Geometry,
+    chips: &mut [u8],
+    records: &mut [u8],
+    slots: &[u8],
+    lost: u64,
+    stripe: u64,
+    allowance: u64,
+) -> Report
+    ensures { λ r. ⌜ _≡_ {A = Reported}
+        (record { report = r; images = images (now (chips .exit)) (now (records .exit)) (now (slots .entry)) })
+        (reportedOf (commitCall (layoutOf g) (images (now (chips .entry)) (now (records .entry)) (now (slots .entry))) lost stripe allowance)) ⌝ }
+{
+    report_of(store::commit(g, chips, records, slots, lost, stripe, allowance))
+}
+
+// See store::collect.
+#[no_mangle]
+pub extern "C" fn vazhettu_collect(
+    g: Geometry,
+    chips: &mut [u8],
+    records: &mut [u8],
+    slots: &[u8],
+    lost: u64,
+    chip: u64,
+    allowance: u64,
+) -> Report
+    ensures { λ r. ⌜ _≡_ {A = Reported}
+        (record { report = r; images = images (now (chips .exit)) (now (records .exit)) (now (slots .entry)) })
+        (reportedOf (collectCall (layoutOf g) (images (now (chips .entry)) (now (records .entry)) (now (slots .entry))) lost chip allowance)) ⌝ }
+{
+    report_of(store::collect(g, chips, records, slots, lost, chip, allowance))
 }

@@ -10,8 +10,9 @@ use Rattle.stores.specs.Steps.{thenBelow}
 use Rattle.stores.specs.Allowance.{images}
 use Rattle.stores.proofs.Allowances.{ran-none, ran-then}
 use Rattle.rules.specs.Open.{ending, moveSteps}
-use Rattle.collect.proofs.Statements.{Working, working}
-use Rattle.collect.proofs.Moves.{some-slots, finish-first, finish-second, finish-idle}
+use Rattle.collect.proofs.Underway.{Working, working}
+use Rattle.names.proofs.Statements.{some-slots}
+use Rattle.collect.proofs.Moves.{finish-first, finish-second, finish-idle}
 use Rattle.collect.proofs.finish.Statement.{statement}
 use Rattle.collect.proofs.finish.Tie as tie
 
@@ -29,7 +30,7 @@ end-requires c κs =
     let t = c .before .before .before .before in
     let s = t .before .before .before .before in
     let w = way t (omega arith) in
-    (s .pre .0 .chips-fit, s .pre .0 .records-fit, w .chip, w .destination, s .pre .1)
+    (s .pre .0 .chips-fit, s .pre .0 .records-pass .fit, w .chip, w .destination, s .pre .1)
 
 same-length : tie.Need-same-length
 same-length c = search needs
@@ -57,7 +58,7 @@ end-requires-2 c κs =
     let w = way t (omega (arith, m .before .before .before .if2 .taken)) in
     let (zs, e) = some-slots (layoutOf (s .args .g)) in (
       s .pre .0 .chips-fit,
-      record { limited = s .pre .0 .chips-fit .limited; long = m .move-all .kept .1 .0 ∙ s .pre .0 .records-fit .long },
+      record { limited = s .pre .0 .chips-fit .limited; long = m .move-all .kept .1 .0 ∙ s .pre .0 .records-pass .fit .long },
       w .chip,
       w .victim,
       m .move-all .ensures zs e .sane,

@@ -9,7 +9,7 @@ use Rattle.layout.specs.Layout.{layoutOf, pages}
 use Rattle.layout.specs.Page.{pageAt}
 use Rattle.layout.specs.Record.{recordAt}
 use Rattle.layout.specs.Collection.{collectionAt}
-use Rattle.collect.proofs.Statements.{tags-pass}
+use Rattle.names.proofs.Statements.{tags-pass}
 use Rattle.collect.proofs.Dues.{pages-small, between, not-due, due-test}
 use Rattle.collect.proofs.is_due.Statement.{statement}
 use Rattle.collect.proofs.is_due.Tie as tie

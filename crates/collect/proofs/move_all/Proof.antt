@@ -7,7 +7,7 @@ use denote.Ref.{now}
 use borrow.Author.Needs.{needs}
 use Rattle.layout.specs.Layout.{layoutOf}
 use Rattle.layout.specs.Collection.{collectionAt}
-use Rattle.collect.specs.Checked.{Checked}
+use Rattle.names.specs.Checked.{Checked}
 use Rattle.collect.proofs.Moves.{Carried, carried-none, carried-cut, carried-sound, carried-more}
 use Rattle.collect.proofs.move_all.Statement.{statement}
 use Rattle.collect.proofs.move_all.Tie as tie

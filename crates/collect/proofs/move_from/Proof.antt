@@ -10,7 +10,7 @@ use Rattle.layout.specs.Layout.{layoutOf, pages}
 use Rattle.rules.specs.Open.{repointed}
 use Rattle.stores.specs.Allowance.{images}
 use Rattle.stores.proofs.Allowances.{ran-none}
-use Rattle.collect.proofs.Statements.{Working}
+use Rattle.collect.proofs.Underway.{Working}
 use Rattle.collect.proofs.Dues.{pages-small}
 use Rattle.collect.proofs.Moves.{under-way, page-fits, no-move, due-stripe, one-move}
 use Rattle.collect.proofs.move_from.Statement.{statement}
@@ -72,7 +72,7 @@ stripe-fits c =
 
 record-at-requires : tie.Need-record-at-requires
 record-at-requires c κs =
-    (c .before .before .before .before .before .before .before .before .pre .0 .records-fit, stripe-fits (c .before))
+    (c .before .before .before .before .before .before .before .before .pre .0 .records-pass .fit, stripe-fits (c .before))
 
 repoint-requires : tie.Need-repoint-requires
 repoint-requires c κs =
@@ -82,7 +82,7 @@ repoint-requires c κs =
 store-record-requires : tie.Need-store-record-requires
 store-record-requires c κs =
     let s = c .before .before .before .before .before .before .before .before .before .before .before in
-    (s .pre .0 .records-fit, stripe-fits (c .before .before .before .before), c .before .repoint .ensures .1, s .pre .4)
+    (s .pre .0 .records-pass .fit, stripe-fits (c .before .before .before .before), c .before .repoint .ensures .1, s .pre .4)
 
 same-length-2 : tie.Need-same-length-2
 same-length-2 c = search needs

@@ -12,8 +12,9 @@ use Rattle.layout.specs.Images.{slotAt}
 use Rattle.layout.proofs.Limits.{within}
 use Rattle.rules.specs.Read.{Fetched, rebuilt}
 use Rattle.rules.proofs.Soundness.RecordChecks.{record-sound}
+use Rattle.slices.proofs.Work.{front-zeros}
 use Rattle.codec.specs.Views.{recordFrom}
-use Rattle.gather.proofs.Pages.{front-zeros, front-back}
+use Rattle.gather.proofs.Pages.{front-fetched}
 use Rattle.gather.proofs.rebuild.Statement.{statement}
 use Rattle.gather.proofs.rebuild.Tie as tie
 
@@ -90,8 +91,8 @@ joined c =
     let b = c .before in
     let w = start b .args .g .w in
     ⊎-elim
-    (λ e. rw (bit-told b ∙ e .0 .taken) (front-back w 4096 (narrow b) (e .2 .kept .0) (e .4) (e .5) (e .2 .ensures)))
-    (λ e. rw (bit-told b ∙ e .0 .left) (front-back w 4096 (narrow b) (e .2 .kept .0) (e .4) (e .5) (e .2 .ensures)))
+    (λ e. rw (bit-told b ∙ e .0 .taken) (front-fetched w 4096 (narrow b) (e .2 .kept .0) (e .4) (e .5) (e .2 .ensures)))
+    (λ e. rw (bit-told b ∙ e .0 .left) (front-fetched w 4096 (narrow b) (e .2 .kept .0) (e .4) (e .5) (e .2 .ensures)))
     (c .if1 .came)
 
 sub-copy : tie.Need-sub-copy

@@ -22,7 +22,7 @@ use Rattle.stores.specs.Store.{program, slot, stripe, apply}
 use Rattle.stores.specs.Steps.{plain, andThen, applyAll, noCounts, counted, countedAll}
 use Rattle.stores.proofs.View.{erased-clean}
 use Rattle.rules.specs.Blocks.{cleanIn, cleanBlock}
-use Rattle.rules.specs.Place.{openBlock, placeOf, atPlace, placed}
+use Rattle.rules.specs.Place.{openBlock, placeOf, roomSteps, atPlace, placed}
 use Rattle.rules.specs.declared.Reading.the-variants.{Done as ReadDone}
 use Rattle.rules.specs.Write.{lowestFreeSlot, freeSlot, commitOwed, owedSteps, dataPage, newPartial, newPartialReads, written, slotSteps, writeAt, writeMember, writeSteps}
 use Rattle.rules.specs.Read.{fetchMember, fetch}
@@ -67,6 +67,11 @@ module _ (l : Layout) (u : Usable l) (s : Images) (f : Fresh l s) where
       (omega (arith, count-all B (cleanBlock l x) (clean-block c chip), u .within .blocks-low))
       (first-is B (cleanBlock l x) 0 some (clean-block c chip 0 some) (λ k low. absurd (omega arith)))
 
+  -- so nothing is collected
+  nothing-collected : (c : ℕ) → c < N + 1 → roomSteps l c s ≡ []
+  unfolding roomSteps whenFound
+  nothing-collected c chip = rw (first-place c chip)
+
   -- no record has a slot, so no commit is owed and slot 0 is free
   no-commit-owed : (j : ℕ) → j < S → owedSteps l j s ≡ []
   unfolding owedSteps commitOwed emptyRecord
@@ -102,7 +107,9 @@ module _ (l : Layout) (u : Usable l) (s : Images) (f : Fresh l s) where
     pub three-stores : (xs : List ℕ) → writeSteps l i xs s
         ≡ plain (program chip (pageIn l 0 0) (dataPage l j m xs)) ∷ plain (slot 0 xs) ∷ plain (stripe j (written l m (pageIn l 0 0) 0 (emptyRecord l))) ∷ []
     unfolding writeSteps writeMember andThen applyAll apply atPlace placed whenFound writeAt slotSteps newPartial newPartialReads emptyRecord
-    three-stores xs = rw (no-commit-owed j stripe-inside, first-place chip (page-chip-fits l (u .within) i), lowest-slot, f .stripe j stripe-inside)
+    three-stores xs =
+        let fits = page-chip-fits l (u .within) i in
+        rw (no-commit-owed j stripe-inside, nothing-collected chip fits, first-place chip fits, lowest-slot, f .stripe j stripe-inside)
 
     -- a read of it, while the records are as they were: zeros, and no page is read for them
     zeros : (t : Images) → Sound l t → t .records ≡ s .records → (buffer : List ℕ) → length buffer ≡ W

@@ -2,7 +2,7 @@
 use Prim.Native.Nat.{ℕ, _+_, _<_}
 use mathlib.Core.Path.{_≡_, ap}
 use mathlib.Core.Logic.{_≢_}
-use mathlib.Core.List.{List, []}
+use mathlib.Core.List.{List}
 use borrow.Author.Tests.{not-true}
 use Rattle.units.specs.declared.Found.the-variants.{At}
 use Rattle.units.specs.Look.{whenFound, someBelow}
@@ -13,14 +13,14 @@ use Rattle.layout.specs.Page.{Page, pageAt}
 use Rattle.layout.specs.Record.{Record, recordAt}
 use Rattle.layout.specs.Collection.{Collection, collectionAt}
 use Rattle.layout.specs.Images.{Images}
-use Rattle.stores.specs.Steps.{Step, andThen}
+use Rattle.stores.specs.Steps.{Step}
 use Rattle.stores.proofs.View.{wiped}
-use Rattle.stores.proofs.Prefixes.{Leads, leads-then, leads-weaken, Closes, closes-then}
+use Rattle.stores.proofs.Prefixes.{Leads, leads-nil, leads-then, leads-weaken, Closes, closes-then}
 use Rattle.rules.specs.Names.{named}
 use Rattle.rules.specs.Blocks.{cleanIn, usedIn, unnamedIn, cleanBlock, fullBlock, lowestCleanBlock}
 use Rattle.rules.specs.Collect.{collectable, namedCount, victimOf, copySteps, collectSteps}
 use Rattle.rules.specs.Open.{finishSteps}
-use Rattle.rules.specs.Place.{placeOf, atPlace, placed}
+use Rattle.rules.specs.Place.{placeOf, roomSteps, atPlace, placed}
 use Rattle.rules.proofs.Soundness.Statements.{Usable, ChipSound, Sound, sound-chip, rest-collects}
 use Rattle.rules.proofs.Stores.Kept.{Kept, kept-refl, kept-trans}
 use Rattle.rules.proofs.Stores.Chips.{wiped-clean, wiped-other}
@@ -55,25 +55,29 @@ module _ (l : Layout) (u : Usable l) where
         let (b, fits, is) = here .spare (rest-collects (collectionAt l (s .records)) c rest) in
         first-found B (cleanBlock l x) b fits is
 
+    -- the victim and the destination are such as a collection needs
+    pub chosen-on : (v d : ℕ) → victimOf l c x r ≡ At v → lowestCleanBlock l x ≡ At d → Chosen l s c v d
+    unfolding victimOf collectable fullBlock lowestCleanBlock
+    chosen-on v d victim clean =
+        let least = least-at B (collectable l c x r) (namedCount l c x r) v victim in
+        let (full, spared) = and-both (fullBlock l x v) (someBelow K (unnamedIn l r c v)) (least .1) in
+        let (i, fits, is) = some-at K (unnamedIn l r c v) spared in
+        let low = first-at B (cleanBlock l x) d clean in
+        record {
+          rest = rest;
+          chip = chip;
+          victim = least .0;
+          destination = low .0;
+          full = λ k h. not-true (cleanIn l x v k) (all-at K (usedIn l x v) full k h);
+          spared = i;
+          spared-fits = fits;
+          spared-unnamed = not-true (named l r c (pageIn l v i)) is;
+          is-clean = low .1;
+        }
+
     module _ (v : ℕ) (victim : victimOf l c x r ≡ At v) where
       chosen : Chosen l s c v (destination .0)
-      unfolding victimOf collectable fullBlock lowestCleanBlock
-      chosen =
-          let least = least-at B (collectable l c x r) (namedCount l c x r) v victim in
-          let (full, spared) = and-both (fullBlock l x v) (someBelow K (unnamedIn l r c v)) (least .1) in
-          let (i, fits, is) = some-at K (unnamedIn l r c v) spared in
-          let low = first-at B (cleanBlock l x) (destination .0) (destination .1) in
-          record {
-            rest = rest;
-            chip = chip;
-            victim = least .0;
-            destination = low .0;
-            full = λ k h. not-true (cleanIn l x v k) (all-at K (usedIn l x v) full k h);
-            spared = i;
-            spared-fits = fits;
-            spared-unnamed = not-true (named l r c (pageIn l v i)) is;
-            is-clean = low .1;
-          }
+      chosen = chosen-on v (destination .0) victim (destination .1)
 
       -- after it the victim is clean, and the destination has a clean page
       cleared : (t w : Images) → AllCopied l c v (destination .0) t → Ended l t w → HasPlace l c w
@@ -98,31 +102,32 @@ module _ (l : Layout) (u : Usable l) where
           leads-weaken l (Kept l) (Kept l) (Ended l t) (HasPlace l c) (finishSteps l t) t (λ w h. h) (λ w h e. cleared t w a e)
           (finish-leads l u t (k .sound))))
 
+    -- where there is no place there is a victim, so the collection makes one
+    pub room-leads : Leads l (Kept l) (HasPlace l c) (roomSteps l c s) s
+    unfolding roomSteps whenFound
+    room-leads = by-found (placeOf l x)
+        (λ p e. rw e (leads-nil l (Kept l) (kept-trans l) (HasPlace l c) s (kept-refl l s f) (record { rest = rest; place = p; found = e })))
+        (λ e.
+        let (v, victim) = victim-found l (u .within) r x c (collectionAt l (s .records)) chip (f .stripes) here (rest-collects (collectionAt l (s .records)) c rest) e in
+        rw e (collect-leads v victim))
+
     -- Where f closes from every image that has a place, it closes after a place was found, or made by a collection.
     module _ (R F : Images → Images → Type 0) (L : Step → Type 0)
         (less : (t w : Images) → Kept l t w → R t w) (trans : (t w z : Images) → R t w → R w z → R t z) (closing : (t w z : Images) → R t w → F w z → F t z)
         (fill : ℕ → Images → List Step)
         (fills : (t : Images) → Kept l s t → collectionAt l (t .records) .phase ≡ 0 → (p : ℕ) → PlaceAt l (pageAt l (t .chips) c) p → Closes l R F L (fill p t) t) where
-      at-place : (t : Images) → Kept l s t → HasPlace l c t → (other : List Step) → Closes l R F L (atPlace l c fill other t) t
+      at-place : (t : Images) → Kept l s t → HasPlace l c t → Closes l R F L (atPlace l c fill t) t
       unfolding atPlace whenFound
-      at-place t k h other =
+      at-place t k h =
           rw (h .found)
           (fills t k (h .rest) (h .place)
           (place-at l (u .within) (recordAt l (t .records)) (pageAt l (t .chips) c) c (collectionAt l (t .records)) (sound-chip l u t (k .sound) c chip)
           (rest-collects (collectionAt l (t .records)) c (h .rest)) (h .place) (h .found)))
 
-      -- with no place there is a victim, and after its collection there is a place
-      collected : (v : ℕ) → victimOf l c x r ≡ At v → Closes l R F L (andThen l (collectSteps l c s) (atPlace l c fill []) s) s
-      collected v victim =
-          closes-then l R F L trans closing (λ t. Kept l s t × HasPlace l c t) (collectSteps l c s) (atPlace l c fill []) s
-          (leads-weaken l (Kept l) R (HasPlace l c) (λ t. Kept l s t × HasPlace l c t) (collectSteps l c s) s (less s) (λ t k h. (k, h)) (collect-leads v victim))
-          (λ t reached h. at-place t (h .0) (h .1) [])
-
       -- so a call that needs a place gets one
       pub placed-closes : Closes l R F L (placed l c fill s) s
-      unfolding placed atPlace whenFound
-      placed-closes = by-found (placeOf l x)
-          (λ p e. at-place s (kept-refl l s f) (record { rest = rest; place = p; found = e }) (andThen l (collectSteps l c s) (atPlace l c fill []) s))
-          (λ e.
-          let (v, victim) = victim-found l (u .within) r x c (collectionAt l (s .records)) chip (f .stripes) here (rest-collects (collectionAt l (s .records)) c rest) e in
-          rw e (collected v victim))
+      unfolding placed
+      placed-closes =
+          closes-then l R F L trans closing (λ t. Kept l s t × HasPlace l c t) (roomSteps l c s) (atPlace l c fill) s
+          (leads-weaken l (Kept l) R (HasPlace l c) (λ t. Kept l s t × HasPlace l c t) (roomSteps l c s) s (less s) (λ t k h. (k, h)) room-leads)
+          (λ t reached h. at-place t (h .0) (h .1))

@@ -139,7 +139,7 @@ module _ (l : Layout) (u : Usable l) where
         (λ e. absurd (omega arith))
         (no-copies-yet l r x (phase 1 c v d) (omega arith))
 
-    begun : Copied l s c v d 0 s₁
+    pub begun : Copied l s c v d 0 s₁
     unfolding apply
     begun = record {
       collection = collection-view l u s f (phase 1 c v d) (phase-sound 1 (omega arith) (omega arith));
@@ -229,6 +229,12 @@ module _ (l : Layout) (u : Usable l) where
           ahead = λ k′ below. m .ahead k′ (rw (count-fail i isNamed n) at below);
         })))
 
+    -- the copies of the places below i, after phase 1
+    pub copies-below : (i : ℕ) → i ≤ K → Leads l (Kept l) (Copied l s c v d i) (stepsBelow i (copyFrom l c x r v d)) s₁
+    copies-below i most =
+        leads-below l (Kept l) (kept-trans l) (Copied l s c v d) i (copyFrom l c x r v d) s₁ (kept-refl l s₁ (first .sound)) begun
+        (λ k low. copy-leads k (omega arith))
+
     -- all copies are made, on images t
     module _ (t : Images) (g : Sound l t) (m : Copied l s c v d K t) where
       abbrev z : ℕ → Page
@@ -314,7 +320,7 @@ module _ (l : Layout) (u : Usable l) where
         leads-cons l (Kept l) (kept-trans l) (AllCopied l c v d) (plain (collection (phase 1 c v d)))
         (stepsBelow K (copyFrom l c x r v d) ++ (plain (collection (phase 2 c v d)) ∷ [])) s (kept-refl l s f) first
         (leads-append l (Kept l) (kept-trans l) (Copied l s c v d K) (AllCopied l c v d) (stepsBelow K (copyFrom l c x r v d)) (plain (collection (phase 2 c v d)) ∷ []) s₁
-        (leads-below l (Kept l) (kept-trans l) (Copied l s c v d) K (copyFrom l c x r v d) s₁ (kept-refl l s₁ (first .sound)) begun copy-leads)
+        (copies-below K (le-refl K))
         (λ h m.
         leads-one l (Kept l) (kept-trans l) (AllCopied l c v d) (plain (collection (phase 2 c v d))) (applyAll l (stepsBelow K (copyFrom l c x r v d)) s₁)
         (kept-refl l (applyAll l (stepsBelow K (copyFrom l c x r v d)) s₁) (h .sound)) (second (applyAll l (stepsBelow K (copyFrom l c x r v d)) s₁) (h .sound) m)

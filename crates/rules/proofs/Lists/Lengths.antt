@@ -3,22 +3,39 @@ use Prim.Native.Nat.{ℕ, _+_, _*_, _≤_}
 use native.Mathlib.Nat.{mul-one}
 use native.Mathlib.Omega.{arith}
 use mathlib.Core.Bool.{Bool, true, false, cond}
-use mathlib.Core.List.{[], _∷_}
+use mathlib.Core.List.{List, [], _∷_}
 use lib.ListN.{length, length-append}
 use lib.Dec.{eqb}
+use Rattle.units.specs.declared.Found.{Found}
+use Rattle.units.specs.declared.Found.the-variants.{At, Nothing}
+use Rattle.units.specs.Look.{countBelow, whenFound}
+use Rattle.units.proofs.Looks.{by-test}
 use Rattle.layout.specs.Layout.{Layout, pageIn}
+use Rattle.layout.specs.Rotation.{parityChip, memberChip, memberOf, stripeOf}
 use Rattle.layout.specs.Page.{pageAt}
 use Rattle.layout.specs.Record.{recordAt}
 use Rattle.layout.specs.Collection.{Collection, collectionAt}
 use Rattle.layout.specs.Images.{Images}
-use Rattle.stores.specs.Steps.{Step, andThen, thenBelow}
+use Rattle.stores.specs.Store.{program}
+use Rattle.stores.specs.Steps.{Step, plain, applyAll, andThen, thenBelow}
 use Rattle.stores.proofs.Lengths.{length-below, length-then-below}
 use Rattle.rules.specs.Format.{eraseChip, eraseBlock, emptyStripe, formatSteps}
+use Rattle.rules.specs.Blocks.{namedIn, lowestCleanBlock}
+use Rattle.rules.specs.Collect.{copyOf, copyFrom, copySteps, victimOf, collectSteps}
+use Rattle.rules.specs.Place.{placeOf, roomSteps, atPlace, placed}
+use Rattle.rules.specs.Commit.{cheapest, commitAt, commitSteps}
+use Rattle.rules.specs.Write.{commitOwed, owedSteps, dataPage, lowestFreeSlot, slotStores, slotSteps, writeAt, writeMember, writeSteps}
 use Rattle.rules.specs.Open.{due, moveStep, moveFrom, moveSteps, ending, finishOf, finishSteps}
 
 at-most-one : (b : Bool) (x : Step) → length (cond b (x ∷ []) []) ≤ 1
 at-most-one true x = omega arith
 at-most-one false x = omega arith
+
+-- what is found and what is not make lists of at most n steps
+found-length : (x : Found) (n : ℕ) (f : ℕ → List Step) (other : List Step) → ((i : ℕ) → length (f i) ≤ n) → length other ≤ n → length (whenFound x f other) ≤ n
+unfolding whenFound
+found-length (At i) n f other h rest = h i
+found-length Nothing n f other h rest = rest
 
 module _ (l : Layout) where
   open Layout l using (N, K, B, S)
@@ -52,3 +69,73 @@ module _ (l : Layout) where
   finish-length s =
       let co = collectionAt l (s .records) in
       finish-of s co (eqb (co .phase) 1) (eqb (co .phase) 2)
+
+  copy-length : (c v d i : ℕ) (s : Images) → length (copyFrom l c (pageAt l (s .chips) c) (recordAt l (s .records)) v d i) ≤ 1
+  unfolding copyFrom
+  copy-length c v d i s =
+      let x = pageAt l (s .chips) c in
+      let r = recordAt l (s .records) in
+      at-most-one (namedIn l r c v i)
+      (record { reads = 1; store = program c (pageIn l d (countBelow i (namedIn l r c v))) (copyOf (pageIn l v i) (x (pageIn l v i))) })
+
+  collect-of : (c : ℕ) (s : Images) (victim destination : Found)
+      → length (whenFound victim (λ v. whenFound destination (λ d. andThen l (copySteps l c (pageAt l (s .chips) c) (recordAt l (s .records)) v d) (finishSteps l) s) []) []) ≤ 2 * K + 4
+  unfolding whenFound andThen copySteps
+  collect-of c s (At v) (At d) =
+      let x = pageAt l (s .chips) c in
+      let r = recordAt l (s .records) in
+      let copies = rw mul-one at (length-below 1 K (copyFrom l c x r v d) (λ i low. copy-length c v d i s)) in
+      let rest = finish-length (applyAll l (copySteps l c x r v d) s) in
+      rw (length-append, length-append) (omega arith)
+  collect-of c s (At v) Nothing = omega arith
+  collect-of c s Nothing destination = omega arith
+
+  -- a collection: phase 1, each place of the victim, phase 2, and its end
+  pub collect-length : (c : ℕ) (s : Images) → length (collectSteps l c s) ≤ 2 * K + 4
+  unfolding collectSteps
+  collect-length c s =
+      let x = pageAt l (s .chips) c in
+      collect-of c s (victimOf l c x (recordAt l (s .records))) (lowestCleanBlock l x)
+
+  -- a list at a place, with the collection that it may need
+  placed-length : (c k : ℕ) (f : ℕ → Images → List Step) (s : Images) → ((p : ℕ) (t : Images) → length (f p t) ≤ k) → length (placed l c f s) ≤ 2 * K + 4 + k
+  unfolding placed andThen roomSteps atPlace
+  placed-length c k f s h =
+      let t = applyAll l (roomSteps l c s) s in
+      let room = found-length (placeOf l (pageAt l (s .chips) c)) (2 * K + 4) (λ p. []) (collectSteps l c s) (λ p. omega arith) (collect-length c s) in
+      let last = found-length (placeOf l (pageAt l (t .chips) c)) k (λ p. f p t) [] (λ p. h p t) (omega arith) in
+      rw length-append (omega arith)
+
+  -- a commit: a place, its program and its record
+  pub commit-length : (j : ℕ) (s : Images) → length (commitSteps l j s) ≤ 2 * K + 6
+  unfolding commitSteps commitAt
+  commit-length j s =
+      let all = placed-length (parityChip l j) 2 (commitAt l j) s (λ p t. omega arith) in
+      omega arith
+
+  owed-length : (j : ℕ) (s : Images) → length (owedSteps l j s) ≤ 2 * K + 6
+  unfolding owedSteps
+  owed-length j s =
+      let r = recordAt l (s .records) in
+      by-test (commitOwed l r j)
+      (λ e. rw e (found-length (cheapest l r) (2 * K + 6) (λ k. commitSteps l k s) [] (λ k. commit-length k s) (omega arith)))
+      (λ e. rw e (omega arith))
+
+  write-at-length : (j m : ℕ) (xs : List ℕ) (p : ℕ) (s : Images) → length (writeAt l j m xs p s) ≤ 3
+  unfolding writeAt andThen slotSteps
+  write-at-length j m xs p s =
+      let t = applyAll l (plain (program (memberChip l j m) p (dataPage l j m xs)) ∷ []) s in
+      let r = recordAt l (t .records) in
+      let last = found-length (lowestFreeSlot l r) 2 (slotStores l j m xs p t (r j)) [] (λ i. omega arith) (omega arith) in
+      rw length-append (omega arith)
+
+  -- a write: the commit that may be owed, a place, its program, its slot, its record
+  pub write-length : (page : ℕ) (xs : List ℕ) (s : Images) → length (writeSteps l page xs s) ≤ 4 * K + 13
+  unfolding writeSteps writeMember andThen
+  write-length page xs s =
+      let j = stripeOf l page in
+      let m = memberOf l page in
+      let t = applyAll l (owedSteps l j s) s in
+      let first = owed-length j s in
+      let last = placed-length (memberChip l j m) 3 (writeAt l j m xs) t (write-at-length j m xs) in
+      rw length-append (omega arith)

@@ -54,6 +54,36 @@ module _ (l : Layout) where
     pub rest : collectionAt l (t .records) .phase ≡ 0
     pub left : SlotLeft j t
 
+module _ (l : Layout) (u : Usable l) (i : ℕ) (s : Images) (f : Sound l s) (rest : collectionAt l (s .records) .phase ≡ 0) where
+  open Layout l using (S, M)
+
+  abbrev before : ℕ → Record
+  before = recordAt l (s .records)
+
+  -- where no commit is owed, stripe i has a slot or there are fewer than M
+  not-owed : commitOwed l before i ≡ false → SlotLeft l i s
+  unfolding commitOwed
+  not-owed e none-yet =
+      let other = eqb-false (countBelow S (slotted before)) M (rw none-yet at e) in
+      omega (arith, f .stripes .few, other)
+
+  owed-full : commitOwed l before i ≡ true → countBelow S (slotted before) ≡ M
+  unfolding commitOwed
+  owed-full e = eqb-true (countBelow S (slotted before)) M (and-both (not (hasSlot (before i))) (eqb (countBelow S (slotted before)) M) e .1)
+
+  -- a commit that is owed leaves a slot
+  pub owed-leads : Leads l (Carries l) (Ready l i) (owedSteps l i s) s
+  unfolding owedSteps whenFound
+  owed-leads = by-test (commitOwed l before i)
+      (λ e.
+      let (k, found, fits, slotted-too, other) = stripe-to-commit l (u .within) before i e in
+      rw (e, found)
+      (closes-leads l (Carries l) (Committed l k) (StoresRecord k) (Ready l i) (commitSteps l k s) s
+      (closes-weaken l (Kept l) (Carries l) (Committed l k) (StoresRecord k) (commitSteps l k s) s (λ t. kept-carries l u s t) (commit-closes l u k fits s f rest slotted-too))
+      (λ t h. h .carries)
+      (λ t h. record { rest = h .rest; left = λ none-yet. omega (arith, h .fewer, owed-full e) })))
+      (λ e. rw e (leads-nil l (Carries l) (carries-trans l) (Ready l i) s (carries-refl l s f) (record { rest = rest; left = not-owed e })))
+
 module _ (l : Layout) (u : Usable l) (page : ℕ) (inside : page < l .N * l .S) (xs : List ℕ) (whole : length xs ≡ l .W) where
   open Layout l using (N, W, S, M)
 
@@ -154,38 +184,10 @@ module _ (l : Layout) (u : Usable l) (page : ℕ) (inside : page < l .N * l .S) 
       placed-closes l u s f (ready .rest) c chip (Kept l) (Wrote l page xs) (StoresRecord j) (λ t w k. k) (kept-trans l) kept-wrote (writeAt l j m xs)
       (λ t k still p o. write-fills t (k .sound) still (kept-left s t k (ready .left)) p o)
 
-  module _ (s : Images) (f : Sound l s) (rest : collectionAt l (s .records) .phase ≡ 0) where
-    abbrev before : ℕ → Record
-    before = recordAt l (s .records)
-
-    -- where no commit is owed, stripe j has a slot or there are fewer than M
-    not-owed : commitOwed l before j ≡ false → SlotLeft l j s
-    unfolding commitOwed
-    not-owed e none-yet =
-        let other = eqb-false (countBelow S (slotted before)) M (rw none-yet at e) in
-        omega (arith, f .stripes .few, other)
-
-    owed-full : commitOwed l before j ≡ true → countBelow S (slotted before) ≡ M
-    unfolding commitOwed
-    owed-full e = eqb-true (countBelow S (slotted before)) M (and-both (not (hasSlot (before j))) (eqb (countBelow S (slotted before)) M) e .1)
-
-    -- a commit that is owed leaves a slot
-    owed-leads : Leads l (Carries l) (Ready l j) (owedSteps l j s) s
-    unfolding owedSteps whenFound
-    owed-leads = by-test (commitOwed l before j)
-        (λ e.
-        let (k, found, fits, slotted-too, other) = stripe-to-commit l (u .within) before j e in
-        rw (e, found)
-        (closes-leads l (Carries l) (Committed l k) (StoresRecord k) (Ready l j) (commitSteps l k s) s
-        (closes-weaken l (Kept l) (Carries l) (Committed l k) (StoresRecord k) (commitSteps l k s) s (λ t. kept-carries l u s t) (commit-closes l u k fits s f rest slotted-too))
-        (λ t h. h .carries)
-        (λ t h. record { rest = h .rest; left = λ none-yet. omega (arith, h .fewer, owed-full e) })))
-        (λ e. rw e (leads-nil l (Carries l) (carries-trans l) (Ready l j) s (carries-refl l s f) (record { rest = rest; left = not-owed e })))
-
-    -- a write from its first store to its last, with the commit and the collection that it may need
-    pub write-closes : Closes l (Carries l) (Wrote l page xs) (StoresRecord j) (writeSteps l page xs s) s
-    unfolding writeSteps writeMember
-    write-closes =
-        closes-then l (Carries l) (Wrote l page xs) (StoresRecord j) (carries-trans l) (carries-wrote l page xs) (Ready l j) (owedSteps l j s) (placed l c (writeAt l j m xs)) s owed-leads
-        (λ t k ready.
-        closes-weaken l (Kept l) (Carries l) (Wrote l page xs) (StoresRecord j) (placed l c (writeAt l j m xs) t) t (λ w. kept-carries l u t w) (write-placed t (k .sound) ready))
+  -- a write from its first store to its last, with the commit and the collection that it may need
+  pub write-closes : (s : Images) → Sound l s → collectionAt l (s .records) .phase ≡ 0 → Closes l (Carries l) (Wrote l page xs) (StoresRecord j) (writeSteps l page xs s) s
+  unfolding writeSteps writeMember
+  write-closes s f rest =
+      closes-then l (Carries l) (Wrote l page xs) (StoresRecord j) (carries-trans l) (carries-wrote l page xs) (Ready l j) (owedSteps l j s) (placed l c (writeAt l j m xs)) s (owed-leads l u j s f rest)
+      (λ t k ready.
+      closes-weaken l (Kept l) (Carries l) (Wrote l page xs) (StoresRecord j) (placed l c (writeAt l j m xs) t) t (λ w. kept-carries l u t w) (write-placed t (k .sound) ready))

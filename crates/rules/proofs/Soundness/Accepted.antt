@@ -4,7 +4,7 @@ use native.Mathlib.Omega.{arith}
 use mathlib.Core.Path.{_≡_, refl, ap, _∙_}
 use mathlib.Core.Logic.{_≢_}
 use mathlib.Core.Bool.{Bool, true, false}
-use mathlib.Core.List.{List, [], _∷_}
+use mathlib.Core.List.{List, [], _∷_, _++_}
 use lib.ListN.{length}
 use lib.Dec.{leb, ltb, eqb}
 use borrow.Author.Tests.{ltb-true, leb-true, eqb-true, lt-ltb, eq-eqb}
@@ -23,7 +23,7 @@ use Rattle.rules.specs.declared.Refusal.{Refusal}
 use Rattle.rules.specs.declared.Refusal.the-variants.{Geometry, Buffers, LostChip, Records, Spares, Collection, Request, Data, ChipSet, Work}
 use Rattle.rules.specs.declared.Check.{Check}
 use Rattle.rules.specs.declared.Check.the-variants.{Passed, Failed}
-use Rattle.rules.specs.Refusals.{unless, lostNamed, recordsCheck, sparesCheck, atRest, buffersCheck, imagesCheck, openCheck, readCheck, writeCheck, commitCheck}
+use Rattle.rules.specs.Refusals.{unless, lostNamed, recordsCheck, sparesCheck, atRest, buffersCheck, imagesCheck, openCheck, readCheck, settledCheck, writeCheck, commitCheck}
 use Rattle.rules.specs.Refusals.{collectCheck, formatCheck}
 use Rattle.rules.proofs.Soundness.Statements.{SoundBut, Sound}
 use Rattle.rules.proofs.Soundness.Checks.{images-sound, lengths-pass, records-check-pass, spares-check-pass}
@@ -37,7 +37,7 @@ abbrev passes : Check → Bool
 passes Passed = true
 passes (Failed r) = false
 
-not-passed : {P : Type 0} (r : Refusal) → Failed r ≡ Passed → P
+pub not-passed {ℓ} : {P : Type ℓ} (r : Refusal) → Failed r ≡ Passed → P
 not-passed r e = both false (ap passes e) refl
 
 -- the rows of a table, from top to bottom
@@ -134,6 +134,10 @@ module _ (l : Layout) where
   unfolding imagesCheck buffersCheck
   images-then s lost below = rows-then (imagesRows s lost) below
 
+  pub settled-then : (s : Images) (lost : ℕ) (below : Check) → settledCheck l s lost below ≡ andBelow (settledCheck l s lost Passed) below
+  unfolding settledCheck imagesCheck buffersCheck
+  settled-then s lost below = rows-then (imagesRows s lost ++ ((atRest l s, Collection) ∷ [])) below
+
   pub buffers-then : (s : Images) (below : Check) → buffersCheck l s below ≡ andBelow (buffersCheck l s Passed) below
   unfolding buffersCheck
   buffers-then s below = rows-then ((limits l, Geometry) ∷ (lengths l s, Buffers) ∷ []) below
@@ -165,14 +169,14 @@ module _ (l : Layout) where
   writeRows s lost page xs = (atRest l s, Collection) ∷ (ltb page (N * S), Request) ∷ (eqb (length xs) W, Data) ∷ (eqb lost noChip, ChipSet) ∷ []
 
   pub write-accepted : (s : Images) (lost page : ℕ) (xs : List ℕ) → writeCheck l s lost page xs ≡ Passed → (lost ≡ noChip) × WriteAccepted s page xs
-  unfolding writeCheck
+  unfolding writeCheck settledCheck
   write-accepted s lost page xs e =
       let (fit, named, but, h) = images-passed s lost (writeRows s lost page xs) e in
       let (none-lost, settled) = settled-by s lost fit but (h .0) (h .1 .1 .1 .0) in
       (none-lost, record { settled = settled; page = ltb-true page (N * S) (h .1 .0); whole = eqb-true (length xs) W (h .1 .1 .0) })
 
   pub write-passes : (s : Images) (page : ℕ) (xs : List ℕ) → WriteAccepted s page xs → writeCheck l s noChip page xs ≡ Passed
-  unfolding writeCheck
+  unfolding writeCheck settledCheck
   write-passes s page xs h =
       images-pass (h .settled .within) s noChip refl (h .settled .sound) (checked (writeRows s noChip page xs) Passed)
       ∙ rw (h .settled .at-rest, lt-ltb page (N * S) (h .page), eq-eqb (length xs) W (h .whole))
@@ -182,7 +186,7 @@ module _ (l : Layout) where
   commitRows s lost j = (atRest l s, Collection) ∷ (ltb j S, Request) ∷ (eqb lost noChip, ChipSet) ∷ (hasSlot (recordAt l (s .records) j), Work) ∷ []
 
   pub commit-accepted : (s : Images) (lost j : ℕ) → commitCheck l s lost j ≡ Passed → (lost ≡ noChip) × CommitAccepted s j
-  unfolding commitCheck
+  unfolding commitCheck settledCheck
   commit-accepted s lost j e =
       let (fit, named, but, h) = images-passed s lost (commitRows s lost j) e in
       let (none-lost, settled) = settled-by s lost fit but (h .0) (h .1 .1 .0) in
@@ -196,7 +200,7 @@ module _ (l : Layout) where
   collectRows s lost c = (atRest l s, Collection) ∷ (leb c N, Request) ∷ (eqb lost noChip, ChipSet) ∷ (whenFound (victim s c) (λ b. true) false, Work) ∷ []
 
   pub collect-accepted : (s : Images) (lost c : ℕ) → collectCheck l s lost c ≡ Passed → (lost ≡ noChip) × CollectAccepted s c
-  unfolding collectCheck
+  unfolding collectCheck settledCheck
   collect-accepted s lost c e =
       let (fit, named, but, h) = images-passed s lost (collectRows s lost c) e in
       let (none-lost, settled) = settled-by s lost fit but (h .0) (h .1 .1 .0) in

@@ -1,0 +1,99 @@
+-- A place is there, or the victim is collected, or there is none.
+use mathlib.Core.Path.{sym, _∙_}
+use denote.Ref.{now}
+use borrow.Author.Needs.{needs}
+use Rattle.layout.specs.Layout.{layoutOf}
+use Rattle.stores.specs.Allowance.{images}
+use Rattle.stores.proofs.Allowances.{ran-none}
+use Rattle.names.proofs.Statements.{tags-pass}
+use Rattle.collect.proofs.Rooms.{ordered, room-there, room-collects, collect-nothing}
+use Rattle.collect.proofs.make_room.Statement.{statement}
+use Rattle.collect.proofs.make_room.Tie as tie
+
+place-on-requires : tie.Need-place-on-requires
+place-on-requires c κs = ordered (c .before .before .before .pre .0 .checked) (c .before .before .before .pre .1)
+
+enum-told : tie.Need-enum-told
+enum-told c = search needs
+
+same-length : tie.Need-same-length
+same-length c = search needs
+
+returns : tie.Need-returns
+returns c =
+    let s = c .before .before .before .before .before .before in
+    let a = s .args in
+    let l = layoutOf (a .g) in
+    λ zs e.
+    let v = images (now (a .chips)) (now (a .records)) zs in
+    rw (room-there l v (a .c) (sym (c .before .before .place-on .ensures) ∙ c .enum-told .given .1)) (ran-none l (a .p) v (s .pre .2))
+
+enum-told-2 : tie.Need-enum-told-2
+enum-told-2 c = search needs
+
+victim-on-requires : tie.Need-victim-on-requires
+victim-on-requires c κs =
+    let s = c .before .before .before .before .before .before .before .before in
+    let a = s .args in
+    let h = s .pre .0 .checked in
+    (ordered h (s .pre .1), tags-pass (a .g) (now (a .chips)) (now (a .records)) h (a .c) (s .pre .1))
+
+enum-known-v : tie.Need-enum-known-v
+enum-known-v c = search needs
+
+collect-chip-requires : tie.Need-collect-chip-requires
+collect-chip-requires c κs =
+    let h = c .before .before .before .before .before .before .before .before .before .before .before .before .before .before .pre in
+    (h .0, h .1, h .2, sym (c .before .before .before .before .before .victim-on .ensures) ∙ c .before .before .before .v .given .1)
+
+enum-told-3 : tie.Need-enum-told-3
+enum-told-3 c = search needs
+
+same-length-2 : tie.Need-same-length-2
+same-length-2 c = search needs
+
+same-length-3 : tie.Need-same-length-3
+same-length-3 c = search needs
+
+returns-2 : tie.Need-returns-2
+returns-2 c =
+    let a = c .before .before .before .before .before .before .before .before .before .before .before .before .before .before .before .before .before .before .before .args in
+    λ zs e.
+    rw (room-collects (layoutOf (a .g)) (images (now (a .chips)) (now (a .records)) zs) (a .c) (sym (c .before .before .before .before .before .before .before .before .before .before .before .before .before .before .before .place-on .ensures) ∙ c .before .before .before .before .before .before .before .before .before .before .before .before .before .enum-told2 .given .1))
+    (c .before .before .before .before .collect-chip .ensures zs e)
+
+same-length-4 : tie.Need-same-length-4
+same-length-4 c = search needs
+
+same-length-5 : tie.Need-same-length-5
+same-length-5 c = search needs
+
+returns-3 : tie.Need-returns-3
+returns-3 c =
+    let s = c .before .before .before .before .before .before .before .before .before .before .before in
+    let a = s .args in
+    let l = layoutOf (a .g) in
+    λ zs e.
+    let v = images (now (a .chips)) (now (a .records)) zs in
+    rw (room-collects l v (a .c) (sym (c .before .before .before .before .before .before .before .place-on .ensures) ∙ c .before .before .before .before .before .enum-told2 .given .1), collect-nothing l v (a .c) (sym (c .before .before .victim-on .ensures) ∙ c .enum-told3 .given .1))
+    (ran-none l (a .p) v (s .pre .2))
+
+pub make-room-spec : {M : Type 1} → statement M
+make-room-spec =
+    tie.close
+    (tie.spec
+    place-on-requires
+    enum-told
+    same-length
+    returns
+    enum-told-2
+    victim-on-requires
+    enum-known-v
+    collect-chip-requires
+    enum-told-3
+    same-length-2
+    same-length-3
+    returns-2
+    same-length-4
+    same-length-5
+    returns-3)

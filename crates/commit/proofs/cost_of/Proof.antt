@@ -1,0 +1,36 @@
+-- Each cost is the one that the test chooses; with at most six members it is below 8.
+use native.Mathlib.Omega.{arith}
+use mathlib.Core.Path.{sym, _∙_}
+use borrow.Author.Needs.{needs}
+use Rattle.layout.specs.Layout.{layoutOf}
+use Rattle.layout.proofs.Limits.{within}
+use Rattle.rules.specs.Commit.{costOf}
+use Rattle.commit.proofs.cost_of.Statement.{statement}
+use Rattle.commit.proofs.cost_of.Tie as tie
+
+most-in-partial-requires : tie.Need-most-in-partial-requires
+most-in-partial-requires c κs = search needs
+
+sub-result : tie.Need-sub-result
+sub-result c = search needs
+
+add-result : tie.Need-add-result
+add-result c = let s = c .before .before in omega (arith, s .pre .1, within (layoutOf (s .args .g)) (s .pre .0) .members-high)
+
+returns : tie.Need-returns
+unfolding costOf
+returns c =
+    let s = c .before .before in
+    let few = within (layoutOf (s .args .g)) (s .pre .0) .members-high in
+    (rw (sym (c .before .most-in-partial .ensures) ∙ c .if1 .taken), omega arith)
+
+returns-2 : tie.Need-returns-2
+unfolding costOf
+returns-2 c =
+    let s = c .before .before in
+    let few = within (layoutOf (s .args .g)) (s .pre .0) .members-high in
+    (rw (sym (c .before .most-in-partial .ensures) ∙ c .if1 .left), omega arith)
+
+pub cost-of-spec : {M : Type 1} → statement M
+cost-of-spec =
+    tie.close (tie.spec most-in-partial-requires sub-result add-result returns returns-2)

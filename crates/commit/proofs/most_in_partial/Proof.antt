@@ -1,0 +1,16 @@
+-- The comparison is that of the definition.
+use native.Mathlib.Omega.{arith}
+use mathlib.Core.Path.{refl}
+use Rattle.layout.specs.Layout.{layoutOf}
+use Rattle.layout.proofs.Limits.{within}
+use Rattle.commit.proofs.most_in_partial.Statement.{statement}
+use Rattle.commit.proofs.most_in_partial.Tie as tie
+
+add-result : tie.Need-add-result
+add-result c = omega (arith, within (layoutOf (c .args .g)) (c .pre) .members-high)
+
+returns : tie.Need-returns
+returns c = refl
+
+pub most-in-partial-spec : {M : Type 1} → statement M
+most-in-partial-spec = tie.close (tie.spec add-result returns)

@@ -1,0 +1,170 @@
+//! What a commit chooses and stores: the cost of a stripe, the cheapest one, the new parity page at its place.
+
+use codec::NONE;
+use codec::PARITY;
+use codec::Spare;
+use codec::StripeRecord;
+use codec::bit_of;
+use codec::bitmap_at;
+use codec::page_data;
+use codec::parity_chip;
+use codec::record_at;
+use codec::slot_at;
+use codec::slot_data;
+use device::program;
+use device::store_record;
+use gather::chosen;
+use gather::gather;
+use layout::Geometry;
+use slices::copy;
+use slices::xor_into;
+use stores::Progress;
+use units::Found;
+ghost use mathlib.Core.Path.{_≡_};
+ghost use mathlib.Core.Bool.{true};
+ghost use Prim.Native.Nat.{_≤_, _<_};
+ghost use lib.ListN.{length};
+ghost use Rattle.layout.specs.Layout.{layoutOf, limits, pages};
+ghost use Rattle.layout.specs.Page.{pageAt};
+ghost use Rattle.layout.specs.Record.{Record, recordAt, hasSlot};
+ghost use Rattle.layout.specs.Images.{slotAt};
+ghost use Rattle.rules.specs.Sound.{recordSound};
+ghost use Rattle.rules.specs.Commit.{setBits, mostInPartial, costOf, cheapest as cheapestOf, newParity, newParityReads, committed as committedRecord, commitAt};
+ghost use Rattle.stores.specs.Allowance.{Sane, Ran, images};
+ghost use Rattle.codec.specs.Fit.{ChipsFit, RecordsFit, SlotsFit};
+ghost use Rattle.codec.specs.Views.{recordFrom, SmallRecord};
+
+// How many members are in a bitmap.
+fn set_bits(g: Geometry, bitmap: usize) -> usize
+    requires { ⌜ limits (layoutOf g) ≡ true ⌝ }
+    ensures { λ r. ⌜ ((e : Record) → e .bitmap ≡ bitmap → r ≡ setBits (layoutOf g) e) × (r ≤ g .n) ⌝ }
+{
+    let n = g.n as usize;
+    let mut p: usize = 0;
+    let mut m = 0;
+    while m < n {
+        if bit_of(bitmap, m) {
+            p += 1;
+        }
+        m += 1;
+    }
+    p
+}
+
+// Whether at least half of the members, rounded up, are in the partial parity.
+fn most_in_partial(g: Geometry, p: usize) -> bool
+    requires { ⌜ limits (layoutOf g) ≡ true ⌝ }
+    ensures { λ r. ⌜ r ≡ mostInPartial (layoutOf g) p ⌝ }
+{
+    let n = g.n as usize;
+    (n + 1) / 2 <= p
+}
+
+// The cost of a commit with so many members in the bitmap.
+fn cost_of(g: Geometry, p: usize) -> usize
+    requires { ⌜ (limits (layoutOf g) ≡ true) × (p ≤ g .n) ⌝ }
+    ensures { λ r. ⌜ (r ≡ costOf (layoutOf g) p) × (r < 8) ⌝ }
+{
+    let n = g.n as usize;
+    if most_in_partial(g, p) { n - p } else { p + 1 }
+}
+
+// The stripe of least cost, the lowest on ties.
+pub fn cheapest(records: &[u8], g: Geometry) -> Found
+    requires { ⌜ RecordsFit g (now records) ⌝ }
+    ensures { λ r. ⌜ r ≡ cheapestOf (layoutOf g) (recordAt (layoutOf g) (now (records .entry))) ⌝ }
+{
+    let s = g.s as usize;
+    let mut stripe: usize = 0;
+    // no cost is as high as 8
+    let mut least: usize = 8;
+    let mut j = 0;
+    while j < s {
+        if slot_at(records, g, j) != 255 {
+            let cost = cost_of(g, set_bits(g, bitmap_at(records, g, j)));
+            if cost < least {
+                stripe = j;
+                least = cost;
+            }
+        }
+        j += 1;
+    }
+    if least < 8 {
+        Found::At(stripe)
+    } else {
+        Found::Nothing
+    }
+}
+
+// Work becomes the new parity of stripe j, and the answer is how many pages were read for it.
+fn new_parity(
+    work: &mut [u8],
+    chips: &[u8],
+    slots: &[u8],
+    g: Geometry,
+    j: usize,
+    e: StripeRecord,
+) -> u64
+    requires { ⌜ ChipsFit g (now chips) × SlotsFit g (now slots) × (length (now work) ≡ g .w)
+        × (recordSound (layoutOf g) (recordFrom (layoutOf g) e) ≡ true) × (hasSlot (recordFrom (layoutOf g) e) ≡ true) ⌝ }
+    ensures { λ r. ⌜ (now (work .exit) ≡ newParity (layoutOf g) (pageAt (layoutOf g) (now (chips .entry))) (slotAt (layoutOf g) (now (slots .entry))) j (recordFrom (layoutOf g) e))
+        × (r ≡ newParityReads (layoutOf g) (recordFrom (layoutOf g) e)) × (r ≤ 8) ⌝ }
+{
+    let current = e.current;
+    let old = e.old;
+    copy(work, slot_data(slots, g, e.slot));
+    if most_in_partial(g, set_bits(g, e.bitmap)) {
+        return gather(work, chips, g, j, chosen(e.bitmap, [NONE; 6], current));
+    }
+    let mut reads = 0;
+    if e.parity != NONE {
+        xor_into(work, page_data(chips, g, parity_chip(g, j), e.parity));
+        reads = 1;
+    }
+    reads + gather(work, chips, g, j, chosen(e.bitmap, old, [NONE; 6]))
+}
+
+// The record with its new parity page q: no olds, no bitmap, no slot.
+fn committed(e: StripeRecord, q: usize) -> StripeRecord
+    requires { ⌜ SmallRecord e × (q < 65536) ⌝ }
+    ensures { λ r. ⌜ ((g : Geometry) → recordFrom (layoutOf g) r ≡ committedRecord (layoutOf g) q (recordFrom (layoutOf g) e)) × SmallRecord r ⌝ }
+{
+    let current = e.current;
+    StripeRecord {
+        current,
+        old: [NONE; 6],
+        parity: q,
+        bitmap: 0,
+        slot: 255,
+        rest: 0,
+    }
+}
+
+// Commits stripe j at page q of its parity chip.
+pub fn commit_at(
+    chips: &mut [u8],
+    records: &mut [u8],
+    slots: &[u8],
+    g: Geometry,
+    j: usize,
+    q: usize,
+    p: Progress,
+) -> Progress
+    requires { ⌜ ChipsFit g (now chips) × RecordsFit g (now records) × SlotsFit g (now slots) × (j < g .s) × (q < pages (layoutOf g)) × Sane p
+        × (recordSound (layoutOf g) (recordAt (layoutOf g) (now records) j) ≡ true) × (hasSlot (recordAt (layoutOf g) (now records) j) ≡ true) ⌝ }
+    ensures { λ r. ⌜ Ran (layoutOf g) p (commitAt (layoutOf g) j q (images (now (chips .entry)) (now (records .entry)) (now (slots .entry))))
+        r (images (now (chips .entry)) (now (records .entry)) (now (slots .entry))) (images (now (chips .exit)) (now (records .exit)) (now (slots .entry))) ⌝ }
+{
+    let mut work = [0u8; 4096];
+    let w = g.w as usize;
+    let e = record_at(records, g, j);
+    let reads = new_parity(&mut work[0..w], chips, slots, g, j, e);
+    let tag = Spare {
+        kind: PARITY,
+        member: 0,
+        stripe: j,
+        copied: NONE,
+    };
+    let run = program(chips, g, parity_chip(g, j), q, &work[0..w], tag, reads, p);
+    store_record(records, g, j, committed(e, q), run)
+}

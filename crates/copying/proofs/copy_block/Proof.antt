@@ -1,0 +1,171 @@
+-- After i turns the copies of the places below i are made, as far as the allowance goes. While the call is not cut the images stay
+-- sound, so that names can be told from stamps; where it is cut no store is made of the places that are left.
+use Prim.Native.Nat.{_+_, _-_, _*_, _≤_, _<_}
+use mathlib.Core.List.{[]}
+use mathlib.Core.Logic.{⊎-elim}
+use native.Mathlib.Omega.{arith}
+use mathlib.Core.Path.{sym, _∙_}
+use denote.Ref.{now}
+use borrow.Author.Needs.{needs}
+use Rattle.layout.specs.Layout.{layoutOf, none, pages}
+use Rattle.layout.proofs.Pages.{page-in-fits}
+use Rattle.copying.proofs.Copies.{Copying, copying-none, copying-skips, copying-more, copying-cut, copying-all, copying-room, copying-tags, copying-still, Begun, chosen}
+use Rattle.names.proofs.Statements.{some-slots, within}
+use Rattle.copying.proofs.copy_block.Statement.{statement}
+use Rattle.copying.proofs.copy_block.Tie as tie
+
+abbrev Inv-loop : tie.InvT-loop
+Inv-loop chips₀ records g c v d k run₀ copies₀ i₀ chips run copies i = Copying g records chips₀ c v d run₀ i copies run chips
+
+abbrev μ-loop : tie.MeasureT-loop
+μ-loop chips₀ records g c v d k run₀ copies₀ i₀ chips run copies i = g .k - i
+
+store-phase-requires : tie.Need-store-phase-requires Inv-loop μ-loop
+store-phase-requires c κs =
+    let s = c .before .before .before in
+    let h = s .pre .0 .checked in
+    (h .records-pass .fit, omega arith, omega (arith, s .pre .1, within _ _ _ h .members-high), s .pre .2)
+
+-- at the loop
+abbrev start : tie.After-slice-known3 Inv-loop μ-loop → tie.Start Inv-loop μ-loop
+start c = c .before .before .before .before .before .before
+
+begun : (c : tie.After-slice-known3 Inv-loop μ-loop)
+    → let a = start c .args in
+    Begun (a .g) (now (a .chips)) (now (a .records)) (c .before .before .store-phase .last .0) (a .c) (a .v) (a .d) (a .p) (c .before .before .store-phase .result)
+begun c =
+    let s = start c in
+    record { settled = s .pre .0; chip = s .pre .1; victim = s .pre .3; clean = s .pre .4; first = c .before .before .store-phase .ensures }
+
+loop-holds : tie.Need-loop-holds Inv-loop μ-loop
+loop-holds c = copying-none (c .before .before .store-phase .ensures [] [] .sane)
+
+same-length : tie.Need-same-length Inv-loop μ-loop
+same-length c = c .before .before .loop .inv .same
+
+same-length-2 : tie.Need-same-length-2 Inv-loop μ-loop
+same-length-2 c = search needs
+
+returns : tie.Need-returns Inv-loop μ-loop
+returns c = λ zs e. copying-cut (begun (c .before .before .before)) zs e (c .before .before .loop .inv) (c .if1 .taken)
+
+-- the blocks are there
+blocks : (c : tie.After-slice-known3 Inv-loop μ-loop) → (start c .args .v < start c .args .g .b) × (start c .args .d < start c .args .g .b)
+blocks c =
+    let (zs, e) = some-slots (layoutOf (start c .args .g)) in
+    let o = chosen (begun c) zs e in
+    (o .victim, o .destination)
+
+-- page i of the victim, and the place that its copy would have
+place : (c : tie.Else1 Inv-loop μ-loop)
+    → let s = c .before .before .before .before .before .before .before .before .before in
+    let t = c .before .before in
+    (s .args .v * s .args .g .k + t .loop .i < pages (layoutOf (s .args .g)))
+    × (s .args .d * s .args .g .k + t .loop .copies < pages (layoutOf (s .args .g)))
+    × (pages (layoutOf (s .args .g)) ≤ 65535)
+unfolding none
+place c =
+    let t = c .before .before in
+    let k = t .before in
+    let s = start k in
+    let l = layoutOf (s .args .g) in
+    let low = c .before .loop-test .taken in (
+      page-in-fits l (s .args .v) (t .loop .i) (blocks k .0) low,
+      page-in-fits l (s .args .d) (t .loop .copies) (blocks k .1) (copying-room (t .loop .inv) low),
+      within _ _ _ (s .pre .0 .checked) .pages-numbered,
+    )
+
+mul-page : tie.Need-mul-page Inv-loop μ-loop
+mul-page c = omega (arith, place c)
+
+add-page : tie.Need-add-page Inv-loop μ-loop
+add-page c = omega (arith, place c)
+
+named-at-requires : tie.Need-named-at-requires Inv-loop μ-loop
+named-at-requires c κs =
+    let w = c .before .before in
+    let t = w .before .before in
+    let (zs, e) = some-slots (layoutOf (start (t .before) .args .g)) in
+    (copying-tags (begun (t .before)) zs e (t .loop .inv) (w .if1 .left), place w .0)
+
+mul-copy-page : tie.Need-mul-copy-page Inv-loop μ-loop
+mul-copy-page c = omega (arith, place (c .before .before .before .before .before))
+
+add-copy-page : tie.Need-add-copy-page Inv-loop μ-loop
+add-copy-page c = omega (arith, place (c .before .before .before .before .before))
+
+copy-page-requires : tie.Need-copy-page-requires Inv-loop μ-loop
+copy-page-requires c κs =
+    let w = c .before .before .before .before .before in
+    let t = w .before .before in
+    let s = start (t .before) in
+    let h = s .pre .0 .checked .chips-fit in
+    (record { limited = h .limited; long = t .loop .inv .same ∙ h .long }, s .pre .1, place w .0, place w .1, t .loop .inv .sane)
+
+add-copies : tie.Need-add-copies Inv-loop μ-loop
+add-copies c = omega (arith, place (c .before .before .before .before .before .before .before .before))
+
+add-i : tie.Need-add-i Inv-loop μ-loop
+add-i c = omega (arith, place (c .before .before .before .before))
+
+loop-less : tie.Need-loop-less Inv-loop μ-loop
+loop-less c = omega (arith, c .before .before .before .before .before .loop-test .taken)
+
+loop-again : tie.Need-loop-again Inv-loop μ-loop
+loop-again c =
+    let w = c .before .before .before .before in
+    let t = w .before .before in
+    let k = t .before in
+    let low = w .before .loop-test .taken in
+    let (zs, e) = some-slots (layoutOf (start k .args .g)) in
+    let told = c .before .named-at .ensures in
+    ⊎-elim
+    (λ z.
+    rw (z .5, z .6, z .7)
+    (copying-more (t .loop .inv) low (sym told ∙ z .0 .taken) (copying-still (begun k) zs e (t .loop .inv) (w .if1 .left) (t .loop .i) low) (z .2 .kept .0) (z .2 .ensures)))
+    (λ z. rw (z .1, z .2, z .3) (copying-skips (t .loop .inv) low (sym told ∙ z .0 .left)))
+    (c .if2 .came)
+
+store-phase-requires-2 : tie.Need-store-phase-requires-2 Inv-loop μ-loop
+store-phase-requires-2 c κs =
+    let k = c .before .before .before in
+    let s = start k in
+    let h = s .pre .0 .checked in
+    (record { limited = h .chips-fit .limited; long = k .before .before .store-phase .kept .0 ∙ h .records-pass .fit .long }, omega arith, omega (arith, s .pre .1, within _ _ _ h .members-high), c .before .before .loop .inv .sane)
+
+same-length-3 : tie.Need-same-length-3 Inv-loop μ-loop
+same-length-3 c = c .before .before .before .before .before .loop .inv .same
+
+same-length-4 : tie.Need-same-length-4 Inv-loop μ-loop
+same-length-4 c = c .before .before .store-phase2 .kept .0 ∙ c .before .before .before .before .before .before .before .before .store-phase .kept .0
+
+returns-2 : tie.Need-returns-2 Inv-loop μ-loop
+returns-2 c =
+    let t = c .before .before .before .before .before in
+    λ zs e. copying-all (begun (t .before)) zs e (t .loop .inv) (omega arith) (c .before .before .store-phase2 .ensures _ zs)
+
+pub copy-block-spec : {M : Type 1} → statement M
+copy-block-spec =
+    tie.close
+    (tie.spec
+    Inv-loop
+    μ-loop
+    store-phase-requires
+    loop-holds
+    same-length
+    same-length-2
+    returns
+    mul-page
+    add-page
+    named-at-requires
+    mul-copy-page
+    add-copy-page
+    copy-page-requires
+    add-copies
+    add-i
+    loop-less
+    loop-again
+    store-phase-requires-2
+    same-length-3
+    same-length-4
+    returns-2)

@@ -1,0 +1,107 @@
+//! The first half of a collection: phase 1, the copies, phase 2.
+
+use codec::CollectionRecord;
+use codec::Spare;
+use codec::page_data;
+use codec::spare_at;
+use device::program;
+use device::store_collection;
+use layout::Geometry;
+use names::named_at;
+use slices::copy;
+use stores::Progress;
+ghost use mathlib.Core.Path.{_≡_};
+ghost use mathlib.Core.List.{List, [], _∷_};
+ghost use Prim.Native.Nat.{ℕ, _≤_, _<_};
+ghost use lib.ListN.{length};
+ghost use Rattle.units.specs.declared.Found.the-variants.{At};
+ghost use Rattle.layout.specs.Layout.{layoutOf, pages};
+ghost use Rattle.layout.specs.Page.{pageAt};
+ghost use Rattle.layout.specs.Record.{recordAt};
+ghost use Rattle.layout.specs.Images.{slotsLength};
+ghost use Rattle.rules.specs.Blocks.{lowestCleanBlock};
+ghost use Rattle.rules.specs.Collect.{phase, copyOf, victimOf, copySteps};
+ghost use Rattle.stores.specs.Store.{program as programStore, collection};
+ghost use Rattle.stores.specs.Steps.{plain};
+ghost use Rattle.stores.specs.Allowance.{Sane, Ran, images};
+ghost use Rattle.codec.specs.Fit.{ChipsFit, RecordsFit};
+ghost use Rattle.names.specs.Checked.{Settled};
+
+// Programs page q of chip c with a copy of its page p.
+fn copy_page(chips: &mut [u8], g: Geometry, c: usize, p: usize, q: usize, run: Progress) -> Progress
+    requires { ⌜ ChipsFit g (now chips) × (c ≤ g .n) × (p < pages (layoutOf g)) × (q < pages (layoutOf g)) × Sane run ⌝ }
+    ensures { λ r. ⌜ ((rs zs : List ℕ) → Ran (layoutOf g) run
+        (record { reads = 1; store = programStore c q (copyOf p (pageAt (layoutOf g) (now (chips .entry)) c p)) } ∷ [])
+        r (images (now (chips .entry)) rs zs) (images (now (chips .exit)) rs zs)) ⌝ }
+{
+    let mut work = [0u8; 4096];
+    let w = g.w as usize;
+    let t = spare_at(chips, g, c, p);
+    copy(&mut work[0..w], page_data(chips, g, c, p));
+    let tag = Spare {
+        kind: t.kind,
+        member: t.member,
+        stripe: t.stripe,
+        copied: p,
+    };
+    program(chips, g, c, q, &work[0..w], tag, 1, run)
+}
+
+// Stores phase n of the collection of block v of chip c into block d.
+fn store_phase(
+    records: &mut [u8],
+    g: Geometry,
+    n: usize,
+    c: usize,
+    v: usize,
+    d: usize,
+    run: Progress,
+) -> Progress
+    requires { ⌜ RecordsFit g (now records) × (n < 256) × (c < 256) × Sane run ⌝ }
+    ensures { λ r. ⌜ ((cs zs : List ℕ) → Ran (layoutOf g) run (plain (collection (phase n c v d)) ∷ [])
+        r (images cs (now (records .entry)) zs) (images cs (now (records .exit)) zs)) ⌝ }
+{
+    let co = CollectionRecord {
+        phase: n,
+        chip: c,
+        victim: v,
+        destination: d,
+    };
+    store_collection(records, g, co, run)
+}
+
+// Copies the named pages of block v of chip c, the victim, to block d, the lowest clean one.
+pub fn copy_block(
+    chips: &mut [u8],
+    records: &mut [u8],
+    g: Geometry,
+    c: usize,
+    v: usize,
+    d: usize,
+    p: Progress,
+) -> Progress
+    requires { ⌜ Settled g (now chips) (now records) × (c ≤ g .n) × Sane p
+        × (victimOf (layoutOf g) c (pageAt (layoutOf g) (now chips) c) (recordAt (layoutOf g) (now records)) ≡ At v)
+        × (lowestCleanBlock (layoutOf g) (pageAt (layoutOf g) (now chips) c) ≡ At d) ⌝ }
+    ensures { λ r. ⌜ ((zs : List ℕ) → length zs ≡ slotsLength (layoutOf g) → Ran (layoutOf g) p
+        (copySteps (layoutOf g) c (pageAt (layoutOf g) (now (chips .entry)) c) (recordAt (layoutOf g) (now (records .entry))) v d)
+        r (images (now (chips .entry)) (now (records .entry)) zs) (images (now (chips .exit)) (now (records .exit)) zs)) ⌝ }
+{
+    let k = g.k as usize;
+    let mut run = store_phase(records, g, 1, c, v, d, p);
+    let mut copies: usize = 0;
+    let mut i = 0;
+    while i < k {
+        // past a cut the images are no longer those that the list was worked out for
+        if run.cut {
+            return run;
+        }
+        let page = v * k + i;
+        if named_at(chips, records, g, c, page) {
+            run = copy_page(chips, g, c, page, d * k + copies, run);
+            copies += 1;
+        }
+        i += 1;
+    }
+    store_phase(records, g, 2, c, v, d, run)
+}

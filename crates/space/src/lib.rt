@@ -1,0 +1,114 @@
+//! Where a chip has room: the place of the next page, the block to collect, the block to copy to.
+
+use codec::page_offset;
+use layout::Geometry;
+use slices::byte;
+use spares::scan_block;
+use units::Found;
+ghost use mathlib.Core.Path.{_≡_};
+ghost use Prim.Native.Nat.{_≤_, _<_};
+ghost use Rattle.layout.specs.Layout.{layoutOf, pages};
+ghost use Rattle.layout.specs.Page.{pageAt, clean as isClean};
+ghost use Rattle.layout.specs.Record.{recordAt};
+ghost use Rattle.rules.specs.Blocks.{lowestCleanBlock};
+ghost use Rattle.rules.specs.Collect.{victimOf};
+ghost use Rattle.rules.specs.Place.{placeOf};
+ghost use Rattle.codec.specs.Fit.{ChipsFit};
+ghost use Rattle.names.specs.Stamps.{TagsPass};
+ghost use Rattle.space.specs.Ordered.{Ordered};
+
+// Whether page p of chip c is clean.
+fn is_clean(chips: &[u8], g: Geometry, c: usize, p: usize) -> bool
+    requires { ⌜ ChipsFit g (now chips) × (c ≤ g .n) × (p < pages (layoutOf g)) ⌝ }
+    ensures { λ r. ⌜ r ≡ isClean (pageAt (layoutOf g) (now (chips .entry)) c p) ⌝ }
+{
+    let w = g.w as usize;
+    byte(chips, page_offset(g, c, p) + w) == 255
+}
+
+// The place on chip c, if there is one. In a block its used pages come first: the block is begun where its first page is used and has
+// room where its last one is clean.
+pub fn place_on(chips: &[u8], g: Geometry, c: usize) -> Found
+    requires { ⌜ Ordered g (now chips) c ⌝ }
+    ensures { λ r. ⌜ r ≡ placeOf (layoutOf g) (pageAt (layoutOf g) (now (chips .entry)) c) ⌝ }
+{
+    let blocks = g.b as usize;
+    let k = g.k as usize;
+    let mut found = Found::Nothing;
+    let mut clean: usize = 0;
+    let mut lowest: usize = 0;
+    let mut b = 0;
+    'search: while b < blocks {
+        let first = b * k;
+        if is_clean(chips, g, c, first) {
+            if clean == 0 {
+                lowest = first;
+            }
+            clean += 1;
+        } else if is_clean(chips, g, c, first + k - 1) {
+            let mut i = 1;
+            while i < k {
+                if is_clean(chips, g, c, first + i) {
+                    found = Found::At(first + i);
+                    break 'search;
+                }
+                i += 1;
+            }
+        }
+        b += 1;
+    }
+    match found {
+        Found::At(p) => Found::At(p),
+        Found::Nothing => {
+            if 2 <= clean {
+                Found::At(lowest)
+            } else {
+                Found::Nothing
+            }
+        }
+    }
+}
+
+// The lowest clean block of chip c.
+pub fn clean_block_on(chips: &[u8], g: Geometry, c: usize) -> Found
+    requires { ⌜ Ordered g (now chips) c ⌝ }
+    ensures { λ r. ⌜ r ≡ lowestCleanBlock (layoutOf g) (pageAt (layoutOf g) (now (chips .entry)) c) ⌝ }
+{
+    let blocks = g.b as usize;
+    let k = g.k as usize;
+    let mut b = 0;
+    while b < blocks {
+        if is_clean(chips, g, c, b * k) {
+            return Found::At(b);
+        }
+        b += 1;
+    }
+    Found::Nothing
+}
+
+// The full block of chip c with fewest named pages, if one has a page that is not named.
+pub fn victim_on(chips: &[u8], records: &[u8], g: Geometry, c: usize) -> Found
+    requires { ⌜ Ordered g (now chips) c × TagsPass g (now chips) (now records) c ⌝ }
+    ensures { λ r. ⌜ r ≡ victimOf (layoutOf g) c (pageAt (layoutOf g) (now (chips .entry)) c) (recordAt (layoutOf g) (now (records .entry))) ⌝ }
+{
+    let blocks = g.b as usize;
+    let k = g.k as usize;
+    let mut victim: usize = 0;
+    let mut fewest = k;
+    let mut b = 0;
+    while b < blocks {
+        if !is_clean(chips, g, c, b * k + k - 1) {
+            let scan = scan_block(chips, records, g, c, b);
+            if scan.named < fewest {
+                victim = b;
+                fewest = scan.named;
+            }
+        }
+        b += 1;
+    }
+    if fewest < k {
+        Found::At(victim)
+    } else {
+        Found::Nothing
+    }
+}

@@ -1,0 +1,134 @@
+-- A list at a place: after the room that was made for it the images have passed the tests again, and the place is on the chip.
+use Prim.Native.Nat.{ℕ, _≤_, _<_}
+use native.Mathlib.Omega.{arith}
+use mathlib.Core.Path.{_≡_, _∙_}
+use mathlib.Core.Bool.{true, false}
+use mathlib.Core.List.{List, []}
+use Rattle.units.specs.declared.Found.the-variants.{At, Nothing}
+use Rattle.units.specs.Look.{whenFound}
+use Rattle.units.proofs.Looks.{least-at}
+use Rattle.layout.specs.declared.Geometry.{Geometry}
+use Rattle.layout.specs.Layout.{Layout, layoutOf, pages}
+use Rattle.layout.specs.Page.{pageAt}
+use Rattle.layout.specs.Record.{Record, recordAt, hasSlot, slotted}
+use Rattle.layout.specs.Collection.{collectionAt}
+use Rattle.layout.specs.Images.{Images}
+use Rattle.layout.proofs.Pages.{page-in-fits}
+use Rattle.layout.proofs.Records.{same-slotted}
+use Rattle.stores.specs.declared.Progress.{Progress}
+use Rattle.stores.specs.Steps.{Step}
+use Rattle.stores.specs.Allowance.{Ran, images}
+use Rattle.stores.proofs.Prefixes.{leads-weaken}
+use Rattle.stores.proofs.Allowances.{ran-none, ran-then, ran-then-cut, ran-whole}
+use Rattle.rules.specs.Place.{placeOf, roomSteps, atPlace, placed}
+use Rattle.rules.specs.Commit.{recordCost, cheapest, commitSteps}
+use Rattle.rules.specs.Write.{commitOwed, owedSteps}
+use Rattle.rules.specs.Sound.{recordSound}
+use Rattle.rules.proofs.Soundness.Statements.{Usable, Sound, rest-collects}
+use Rattle.rules.proofs.Soundness.RecordChecks.{record-pass}
+use Rattle.rules.proofs.Stores.Kept.{Kept}
+use Rattle.rules.proofs.Data.Carries.{Carries}
+use Rattle.rules.proofs.Space.Room.{place-at}
+use Rattle.rules.proofs.Lists.Collecting.{HasPlace, room-leads}
+use Rattle.rules.proofs.Lists.Writing.{Ready, owed-leads}
+use Rattle.codec.specs.Fit.{SlotsFit}
+use Rattle.names.specs.Checked.{Settled}
+use Rattle.names.proofs.Statements.{usable, stripes, chip-is-sound, sound, checked}
+
+-- sound images at rest pass the tests
+settled-at : (g : Geometry) {x r : List ℕ} → Settled g x r → (t : Images) → Sound (layoutOf g) t → collectionAt (layoutOf g) (t .records) .phase ≡ 0
+    → Settled g (t .chips) (t .records)
+settled-at g h t f rest = record { checked = checked g (h .checked .chips-fit .limited) t f; at-rest = rest }
+
+module _ {g : Geometry} {x r : List ℕ} (h : Settled g x r) where
+  abbrev l : Layout
+  l = layoutOf g
+
+  u : Usable l
+  u = usable g x r (h .checked)
+
+  -- the record of a stripe is sound
+  pub record-passes : {j : ℕ} → j < g .s → recordSound l (recordAt l r j) ≡ true
+  record-passes {j} low = record-pass l (recordAt l r j) (stripes g x r (h .checked) .stripe j low)
+
+  -- a place that is found is a page of the chip
+  pub place-low : {c k : ℕ} → c ≤ g .n → placeOf l (pageAt l x c) ≡ At k → k < pages l
+  place-low {c} {k} chip found =
+      let o = place-at l (u .within) (recordAt l r) (pageAt l x c) c (collectionAt l r) (chip-is-sound g x r (h .checked) c chip) (rest-collects (collectionAt l r) c (h .at-rest)) k found in
+      rw (o .is) (page-in-fits l (o .block) (o .place) (o .fillable .block) (o .fillable .place))
+
+  module _ {z : List ℕ} (slots : SlotsFit g z) where
+    abbrev s : Images
+    s = images x r z
+
+    f : Sound l s
+    f = sound g x r (h .checked) z (slots .long)
+
+    -- room was to be made on chip c
+    module _ {c : ℕ} (chip : c ≤ g .n) {p q : Progress} {x₁ r₁ : List ℕ} (first : Ran l p (roomSteps l c s) q s (images x₁ r₁ z)) where
+      abbrev t : Images
+      t = images x₁ r₁ z
+
+      -- where that is not cut
+      module _ (going : q .cut ≡ false) where
+        kept : Kept l s t × HasPlace l c t
+        kept =
+            rw (ran-whole l p q (roomSteps l c s) s t first going)
+            (leads-weaken l (Kept l) (Kept l) (HasPlace l c) (λ w. Kept l s w × HasPlace l c w) (roomSteps l c s) s (λ w k. k) (λ w k o. (k, o))
+            (room-leads l u s f (h .at-rest) c (omega arith)) .ends)
+
+        pub room-settled : Settled g x₁ r₁
+        room-settled = settled-at g h t (kept .0 .sound) (kept .1 .rest)
+
+        -- a stripe with a slot has it still
+        pub room-slotted : {j : ℕ} → j < g .s → hasSlot (recordAt l r j) ≡ true → hasSlot (recordAt l r₁ j) ≡ true
+        room-slotted {j} low e = same-slotted (recordAt l r j) (recordAt l r₁ j) (kept .0 .slot j low) ∙ e
+
+      module _ (fill : ℕ → Images → List Step) where
+        -- where it is cut, that is all
+        pub placed-cut : q .cut ≡ true → Ran l p (placed l c fill s) q s t
+        unfolding placed
+        placed-cut cut = ran-then-cut l p q (roomSteps l c s) (atPlace l c fill) s t first cut
+
+        -- what is done at the place
+        pub placed-at : {k : ℕ} → placeOf l (pageAt l x₁ c) ≡ At k → {w : Progress} {v : Images} → Ran l q (fill k t) w t v → Ran l p (placed l c fill s) w s v
+        unfolding placed atPlace whenFound
+        placed-at found {w} {v} second = ran-then l p q w (roomSteps l c s) (atPlace l c fill) s t v first (rw found second)
+
+        pub placed-nowhere : placeOf l (pageAt l x₁ c) ≡ Nothing → Ran l p (placed l c fill s) q s t
+        unfolding placed atPlace whenFound
+        placed-nowhere found = ran-then l p q q (roomSteps l c s) (atPlace l c fill) s t t first (rw found (ran-none l q t (first .sane)))
+
+    -- a commit that may be owed was to be made; where it is not cut the images are as before it
+    pub owed-settled : (j : ℕ) {p q : Progress} {x₁ r₁ : List ℕ} → Ran l p (owedSteps l j s) q s (images x₁ r₁ z) → q .cut ≡ false → Settled g x₁ r₁
+    owed-settled j {p} {q} {x₁} {r₁} first going =
+        let w = images x₁ r₁ z in
+        let (k, ready) : Carries l s w × Ready l j w =
+        rw (ran-whole l p q (owedSteps l j s) s w first going)
+        (leads-weaken l (Carries l) (Carries l) (Ready l j) (λ v. Carries l s v × Ready l j v) (owedSteps l j s) s (λ v k. k) (λ v k o. (k, o))
+        (owed-leads l u j s f (h .at-rest)) .ends) in
+        settled-at g h w (k .sound) (ready .rest)
+
+-- a chip by another name
+pub placed-on : (l : Layout) {c d : ℕ} → c ≡ d → (fill : ℕ → Images → List Step) {p q : Progress} {s t : Images} → Ran l p (placed l c fill s) q s t → Ran l p (placed l d fill s) q s t
+placed-on l e fill h = rw e at h
+
+-- ---- whether a commit is owed
+
+module _ (l : Layout) (j : ℕ) (s : Images) where
+  pub owed-not : commitOwed l (recordAt l (s .records)) j ≡ false → owedSteps l j s ≡ []
+  unfolding owedSteps
+  owed-not e = rw e
+
+  pub owed-commits : {k : ℕ} → commitOwed l (recordAt l (s .records)) j ≡ true → cheapest l (recordAt l (s .records)) ≡ At k → owedSteps l j s ≡ commitSteps l k s
+  unfolding owedSteps whenFound
+  owed-commits e found = rw (e, found)
+
+  pub owed-nothing : commitOwed l (recordAt l (s .records)) j ≡ true → cheapest l (recordAt l (s .records)) ≡ Nothing → owedSteps l j s ≡ []
+  unfolding owedSteps whenFound
+  owed-nothing e found = rw (e, found)
+
+-- the stripe to commit is there, and has a slot
+pub cheapest-slotted : (l : Layout) (r : ℕ → Record) {k : ℕ} → cheapest l r ≡ At k → (k < l .S) × (hasSlot (r k) ≡ true)
+unfolding cheapest
+cheapest-slotted l r {k} e = let (low, has, _, _) = least-at (l .S) (slotted r) (recordCost l r) k e in (low, has)

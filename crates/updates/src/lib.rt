@@ -1,0 +1,126 @@
+//! Commits and writes as a whole: room on the chip, the place, and what is stored there.
+
+use codec::member_chip;
+use codec::parity_chip;
+use collect::make_room;
+use commit::cheapest;
+use commit::commit_at;
+use layout::Geometry;
+use space::place_on;
+use stores::Progress;
+use units::Found;
+use write::is_owed;
+use write::write_at;
+ghost use mathlib.Core.Path.{_≡_};
+ghost use mathlib.Core.Bool.{true};
+ghost use Prim.Native.Nat.{_<_};
+ghost use lib.ListN.{length};
+ghost use Rattle.layout.specs.Layout.{layoutOf};
+ghost use Rattle.layout.specs.Rotation.{memberChip};
+ghost use Rattle.layout.specs.Record.{recordAt, hasSlot};
+ghost use Rattle.rules.specs.Place.{placed};
+ghost use Rattle.rules.specs.Commit.{commitSteps};
+ghost use Rattle.rules.specs.Write.{owedSteps, writeAt, writeMember};
+ghost use Rattle.stores.specs.Allowance.{Sane, Ran, images};
+ghost use Rattle.codec.specs.Fit.{SlotsFit};
+ghost use Rattle.names.specs.Checked.{Settled};
+
+// Commits stripe j.
+pub fn commit_stripe(
+    chips: &mut [u8],
+    records: &mut [u8],
+    slots: &[u8],
+    g: Geometry,
+    j: usize,
+    p: Progress,
+) -> Progress
+    requires { ⌜ Settled g (now chips) (now records) × SlotsFit g (now slots) × (j < g .s) × Sane p
+        × (hasSlot (recordAt (layoutOf g) (now records) j) ≡ true) ⌝ }
+    ensures { λ r. ⌜ Ran (layoutOf g) p (commitSteps (layoutOf g) j (images (now (chips .entry)) (now (records .entry)) (now (slots .entry))))
+        r (images (now (chips .entry)) (now (records .entry)) (now (slots .entry))) (images (now (chips .exit)) (now (records .exit)) (now (slots .entry))) ⌝ }
+{
+    let c = parity_chip(g, j);
+    let run = make_room(chips, records, g, c, p);
+    // past a cut there may be no place yet
+    if run.cut {
+        return run;
+    }
+    match place_on(chips, g, c) {
+        Found::At(q) => commit_at(chips, records, slots, g, j, q, run),
+        Found::Nothing => run,
+    }
+}
+
+// Commits the stripe of least cost where a commit is owed for a write to stripe j.
+fn commit_owed(
+    chips: &mut [u8],
+    records: &mut [u8],
+    slots: &[u8],
+    g: Geometry,
+    j: usize,
+    p: Progress,
+) -> Progress
+    requires { ⌜ Settled g (now chips) (now records) × SlotsFit g (now slots) × (j < g .s) × Sane p ⌝ }
+    ensures { λ r. ⌜ Ran (layoutOf g) p (owedSteps (layoutOf g) j (images (now (chips .entry)) (now (records .entry)) (now (slots .entry))))
+        r (images (now (chips .entry)) (now (records .entry)) (now (slots .entry))) (images (now (chips .exit)) (now (records .exit)) (now (slots .entry))) ⌝ }
+{
+    if !is_owed(records, g, j) {
+        return p;
+    }
+    match cheapest(records, g) {
+        Found::At(k) => commit_stripe(chips, records, slots, g, k, p),
+        Found::Nothing => p,
+    }
+}
+
+// Finds a place for member m of stripe j and writes it there.
+fn place_member(
+    chips: &mut [u8],
+    records: &mut [u8],
+    slots: &mut [u8],
+    g: Geometry,
+    j: usize,
+    m: usize,
+    bytes: &[u8],
+    p: Progress,
+) -> Progress
+    requires { ⌜ Settled g (now chips) (now records) × SlotsFit g (now slots) × (j < g .s) × (m < g .n) × (length (now bytes) ≡ g .w) × Sane p ⌝ }
+    ensures { λ r. ⌜ Ran (layoutOf g) p
+        (placed (layoutOf g) (memberChip (layoutOf g) j m) (writeAt (layoutOf g) j m (now (bytes .entry))) (images (now (chips .entry)) (now (records .entry)) (now (slots .entry))))
+        r (images (now (chips .entry)) (now (records .entry)) (now (slots .entry))) (images (now (chips .exit)) (now (records .exit)) (now (slots .exit))) ⌝ }
+{
+    let c = member_chip(g, j, m);
+    let run = make_room(chips, records, g, c, p);
+    // past a cut there may be no place yet
+    if run.cut {
+        return run;
+    }
+    match place_on(chips, g, c) {
+        Found::At(q) => write_at(chips, records, slots, g, j, m, bytes, q, run),
+        Found::Nothing => run,
+    }
+}
+
+// Writes member m of stripe j.
+pub fn write_member(
+    chips: &mut [u8],
+    records: &mut [u8],
+    slots: &mut [u8],
+    g: Geometry,
+    j: usize,
+    m: usize,
+    bytes: &[u8],
+    p: Progress,
+) -> Progress
+    requires { ⌜ Settled g (now chips) (now records) × SlotsFit g (now slots) × (j < g .s) × (m < g .n) × (length (now bytes) ≡ g .w) × Sane p ⌝ }
+    ensures { λ r. ⌜ Ran (layoutOf g) p
+        (writeMember (layoutOf g) j m (now (bytes .entry)) (images (now (chips .entry)) (now (records .entry)) (now (slots .entry))))
+        r (images (now (chips .entry)) (now (records .entry)) (now (slots .entry))) (images (now (chips .exit)) (now (records .exit)) (now (slots .exit))) ⌝ }
+{
+    let run = commit_owed(chips, records, slots, g, j, p);
+    // past a cut the images are no longer those that the list was worked out for
+    if run.cut {
+        return run;
+    }
+    place_member(chips, records, slots, g, j, m, bytes, run)
+}

@@ -1,0 +1,177 @@
+-- The new partial parity comes back as the front of the work page; then the two stores, one after the other.
+use Prim.Native.Nat.{ℕ, _-_, _≤_}
+use native.Mathlib.Omega.{arith}
+use mathlib.Core.Path.{_≡_, refl, sym, ap, _∙_}
+use mathlib.Core.List.{[], _++_}
+use lib.ListN.{length, take, drop, replicate}
+use denote.Ref.{now}
+use borrow.Author.Needs.{needs}
+use Rattle.units.specs.declared.Found.the-variants.{At}
+use Rattle.layout.specs.Layout.{layoutOf, none}
+use Rattle.layout.specs.Record.{recordAt}
+use Rattle.layout.proofs.Limits.{within}
+use Rattle.stores.specs.Allowance.{images}
+use Rattle.stores.proofs.Allowances.{ran-none, ran-append}
+use Rattle.rules.specs.Write.{lowestFreeSlot}
+use Rattle.slices.proofs.Work.{front-long, front-back}
+use Rattle.write.proofs.Slots.{free-fits}
+use Rattle.write.proofs.Steps.{steps-none, steps-found}
+use Rattle.write.proofs.store_partial.Statement.{statement}
+use Rattle.write.proofs.store_partial.Tie as tie
+
+free-slot-requires : tie.Need-free-slot-requires
+free-slot-requires c κs = search needs
+
+enum-known-i : tie.Need-enum-known-i
+enum-known-i c = search needs
+
+-- the calls, back to what the function was called with
+abbrev partial : tie.After-store-slot → tie.After-new-partial
+partial c = c .before .before .before .before .before
+
+abbrev entry : tie.After-new-partial → tie.After-record-at
+entry c = c .before .before .before
+
+abbrev slot : tie.After-record-at → tie.After-i
+slot c = c .before .before .before
+
+abbrev start : tie.After-i → tie.Start
+start c = c .before .before .before .before .before .before .before .before
+
+-- the slot that is found is the lowest free one
+found : (c : tie.After-i)
+    → let a = start c .args in
+    lowestFreeSlot (layoutOf (a .g)) (recordAt (layoutOf (a .g)) (now (a .records))) ≡ At (c .i .given .0 .0)
+found c = sym (c .before .before .free-slot .ensures) ∙ c .i .given .1
+
+-- and one of the M + 1
+fits : (c : tie.After-i) → c .i .given .0 .0 ≤ start c .args .g .m
+fits c =
+    let a = start c .args in
+    free-fits (a .g) (recordAt (layoutOf (a .g)) (now (a .records))) (c .i .given .0 .0) (found c)
+
+record-at-requires : tie.Need-record-at-requires
+record-at-requires c κs = search needs
+
+sub-new-partial : tie.Need-sub-new-partial
+sub-new-partial c = search needs
+
+part-work-start : tie.Need-part-work-start
+part-work-start c = search needs
+
+-- the page fits into the work page
+narrow : (s : tie.Start) → s .args .g .w ≤ 4096
+narrow s = within (layoutOf (s .args .g)) (s .pre .0 .limited) .bytes-high
+
+part-work-end : tie.Need-part-work-end
+part-work-end c = narrow (start (slot c))
+
+new-partial-requires : tie.Need-new-partial-requires
+new-partial-requires c κs =
+    let s = start (slot (c .before .before)) in
+    (s .pre .0, s .pre .2, front-long (s .args .g .w) 4096 (narrow s), s .pre .5, s .pre .4, rw (c .before .before .record-at .ensures .0) (s .pre .7))
+
+sub-store-slot : tie.Need-sub-store-slot
+sub-store-slot c = search needs
+
+part-store-slot-start : tie.Need-part-store-slot-start
+part-store-slot-start c = search needs
+
+-- and comes back as its front
+back : (c : tie.After-new-partial)
+    → let w = start (slot (entry c)) .args .g .w in
+    let work = c .new-partial .last .0 ++ drop (w - 0) (replicate 4096 0) in
+    (w ≤ length work) × (take (w - 0) work ≡ c .new-partial .last .0)
+back c =
+    let s = start (slot (entry c)) in
+    front-back (s .args .g .w) 4096 (narrow s) (c .new-partial .kept .0) refl
+
+part-store-slot-end : tie.Need-part-store-slot-end
+part-store-slot-end c = back (c .before .before .before) .0
+
+store-slot-requires : tie.Need-store-slot-requires
+store-slot-requires c κs =
+    let n = c .before .before .before .before in
+    let i = slot (entry n) in
+    let s = start i in
+    (s .pre .2, fits i, ap (length {A = ℕ}) (back n .1) ∙ n .new-partial .kept .0 ∙ front-long (s .args .g .w) 4096 (narrow s), n .new-partial .ensures .2, s .pre .8)
+
+written-requires : tie.Need-written-requires
+unfolding none
+written-requires c κs =
+    let e = entry (partial (c .before .before .before)) in
+    let i = slot e in
+    let s = start i in
+    let w = within (layoutOf (s .args .g)) (s .pre .0 .limited) in (
+      e .record-at .ensures .1,
+      omega (arith, s .pre .4, w .members-high),
+      omega (arith, s .pre .6, w .pages-numbered),
+      omega (arith, fits i, w .partials-high),
+    )
+
+store-record-requires : tie.Need-store-record-requires
+store-record-requires c κs =
+    let f = c .before .before .before .before in
+    let s = start (slot (entry (partial f))) in
+    (s .pre .1, s .pre .3, c .written .ensures .1, f .store-slot .ensures [] [] .sane)
+
+enum-told : tie.Need-enum-told
+enum-told c = search needs
+
+same-length : tie.Need-same-length
+same-length c = search needs
+
+same-length-2 : tie.Need-same-length-2
+same-length-2 c = search needs
+
+returns : tie.Need-returns
+returns c =
+    let f = c .before .before .before .before .before .before .before in
+    let n = partial f in
+    let e = entry n in
+    let i = slot e in
+    let a = start i .args in
+    let l = layoutOf (a .g) in
+    let x = now (a .chips) in
+    let r = now (a .records) in
+    let v = images x r (now (a .slots)) in
+    let z = f .store-slot .last .0 in
+    let last = c .before .before .store-record in
+    rw (steps-found l (a .j) (a .m) (now (a .bytes)) (a .q) v (i .i .given .0 .0) (found i) (e .record-at .ensures .0)
+    (back n .1 ∙ n .new-partial .ensures .0) (n .new-partial .ensures .1) (c .before .before .before .written .ensures .0 (a .g)))
+    (ran-append l (a .p) (f .store-slot .result) (last .result) _ _ v (images x r z) _ (f .store-slot .ensures x r) (last .ensures x z))
+
+same-length-3 : tie.Need-same-length-3
+same-length-3 c = search needs
+
+returns-2 : tie.Need-returns-2
+returns-2 c =
+    let s = c .before .before .before .before .before .before .before .before in
+    let a = s .args in
+    let l = layoutOf (a .g) in
+    let v = images (now (a .chips)) (now (a .records)) (now (a .slots)) in
+    rw (steps-none l (a .j) (a .m) (now (a .bytes)) (a .q) v (sym (c .before .before .free-slot .ensures) ∙ c .enum-told .given .1)) (ran-none l (a .p) v (s .pre .8))
+
+pub store-partial-spec : {M : Type 1} → statement M
+store-partial-spec =
+    tie.close
+    (tie.spec
+    free-slot-requires
+    enum-known-i
+    record-at-requires
+    sub-new-partial
+    part-work-start
+    part-work-end
+    new-partial-requires
+    sub-store-slot
+    part-store-slot-start
+    part-store-slot-end
+    store-slot-requires
+    written-requires
+    store-record-requires
+    enum-told
+    same-length
+    same-length-2
+    returns
+    same-length-3
+    returns-2)
