@@ -148,10 +148,10 @@ pub fn open(
     if let Check::Failed(r) = check {
         return Answer::Refused(r);
     }
-    if lost != 255 {
-        return answer(start(allowance));
+    if lost == 255 {
+        return answer(finish(chips, records, g, start(allowance)));
     }
-    answer(finish(chips, records, g, start(allowance)))
+    answer(start(allowance))
 }
 
 // Fills the buffer with a page.

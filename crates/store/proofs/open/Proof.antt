@@ -1,4 +1,4 @@
--- Refused; with a chip lost, no store; else what `finish` runs.
+-- Refused; with no chip lost what `finish` runs; else no store.
 use mathlib.Core.Path.{sym, _∙_}
 use borrow.Author.Needs.{needs}
 use denote.Ref.{now}
@@ -20,14 +20,16 @@ same-length-2 : tie.Need-same-length-2
 same-length-2 c = search needs
 
 returns : tie.Need-returns
-returns c =
-    open-first _ _ _ _ (c .before .check .given .0 .0) (sym (c .before .before .before .images-check .ensures) ∙ c .before .check .given .1)
+returns c = open-first _ _ _ _ (c .before .check .given .0 .0) (sym (c .before .before .before .images-check .ensures) ∙ c .before .check .given .1)
 
 enum-told : tie.Need-enum-told
 enum-told c = search needs
 
 start-requires : tie.Need-start-requires
 start-requires c κs = search needs
+
+finish-requires : tie.Need-finish-requires
+finish-requires c κs = (checked _ _ _ (sym (c .before .before .before .before .before .before .images-check .ensures) ∙ c .before .before .before .before .enum-told .given .1) (c .before .before .before .if1 .taken), c .start .ensures .1)
 
 answer-requires : tie.Need-answer-requires
 answer-requires c κs = search needs
@@ -40,13 +42,15 @@ same-length-4 c = search needs
 
 returns-2 : tie.Need-returns-2
 returns-2 c =
-    rw (c .answer .ensures) (open-nothing _ _ _ _ (c .before .start .result) (sym (c .before .before .before .before .before .images-check .ensures) ∙ c .before .before .before .enum-told .given .1) (c .before .before .if1 .taken) (c .before .start .ensures .0) (c .before .start .ensures .1))
+    let a = c .before .before .before .before .before .before .before .before .before .before .before .before .before .before .before .before .before .before .args in
+    let passed = sym (c .before .before .before .before .before .before .before .before .before .before .before .before .images-check .ensures) ∙ c .before .before .before .before .before .before .before .before .before .before .enum-told .given .1 in
+    let h = images-fit (a .g) _ _ passed in
+    let f = c .before .before .before .before .before .finish in
+    rw (c .answer .ensures)
+    (open-finishes (layoutOf (a .g)) _ _ _ _ (f .result) _ (h .within-limits) passed (c .before .before .before .before .before .before .before .before .before .if1 .taken) (c .before .before .before .before .before .before .start .ensures .0) (f .ensures (now (a .slots)) (h .fit .slots .long)))
 
 start-requires-2 : tie.Need-start-requires-2
 start-requires-2 c κs = search needs
-
-finish-requires : tie.Need-finish-requires
-finish-requires c κs = (checked _ _ _ (sym (c .before .before .before .before .before .before .images-check .ensures) ∙ c .before .before .before .before .enum-told .given .1) (c .before .before .before .if1 .left), c .start2 .ensures .1)
 
 answer-requires-2 : tie.Need-answer-requires-2
 answer-requires-2 c κs = search needs
@@ -59,11 +63,8 @@ same-length-6 c = search needs
 
 returns-3 : tie.Need-returns-3
 returns-3 c =
-    let l = layoutOf (c .before .before .before .before .before .before .before .before .before .before .before .before .before .before .before .before .before .before .args .g) in
-    let h = images-fit (c .before .before .before .before .before .before .before .before .before .before .before .before .before .before .before .before .before .before .args .g) _ _ (sym (c .before .before .before .before .before .before .before .before .before .before .before .before .images-check .ensures) ∙ c .before .before .before .before .before .before .before .before .before .before .enum-told .given .1) in
     rw (c .answer2 .ensures)
-    (open-finishes l _ _ _ _ (c .before .before .before .before .before .finish .result) _ (h .within-limits) (sym (c .before .before .before .before .before .before .before .before .before .before .before .before .images-check .ensures) ∙ c .before .before .before .before .before .before .before .before .before .before .enum-told .given .1) (c .before .before .before .before .before .before .before .before .before .if1 .left) (c .before .before .before .before .before .before .start2 .ensures .0)
-    (c .before .before .before .before .before .finish .ensures (now (c .before .before .before .before .before .before .before .before .before .before .before .before .before .before .before .before .before .before .args .slots)) (h .fit .slots .long)))
+    (open-nothing _ _ _ _ (c .before .start2 .result) (sym (c .before .before .before .before .before .images-check .ensures) ∙ c .before .before .before .enum-told .given .1) (c .before .before .if1 .left) (c .before .start2 .ensures .0) (c .before .start2 .ensures .1))
 
 pub open-spec : {M : Type 1} → statement M
 open-spec =
@@ -76,12 +77,12 @@ open-spec =
     returns
     enum-told
     start-requires
+    finish-requires
     answer-requires
     same-length-3
     same-length-4
     returns-2
     start-requires-2
-    finish-requires
     answer-requires-2
     same-length-5
     same-length-6
