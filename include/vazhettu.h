@@ -1,5 +1,5 @@
 /*
- * The weight store: format, open and read.
+ * The weight store, all six calls: format, open, read, write, commit and collect.
  *
  * A store is three buffers that the caller lends to every call, as document 01 lays them out:
  *   chips    (n + 1) * b * k pages of w + 8 bytes
@@ -11,7 +11,11 @@
  * length is 0, and no two buffers of one call overlap.
  *
  * A call that stores carries an allowance: it makes no more stores than that, and answers VAZHETTU_CUT exactly where more
- * were due. What it has stored then stands whole, and vazhettu_open goes on from there.
+ * were due. What it has stored then stands whole. A cut, like a real loss of power between two stores, can leave a collection
+ * under way: vazhettu_open finishes it, and the call that was cut may be made again.
+ *
+ * From a finished format on, where every call has its geometry and nobody else writes the buffers: whatever was cut, and with any
+ * one chip lost if later calls name it, a page reads as its last write that was done, or as zeros if there is none.
  */
 #ifndef VAZHETTU_H
 #define VAZHETTU_H
@@ -40,7 +44,11 @@ struct vazhettu_report {
     uint64_t stores;   /* stores made, of whatever kind */
 };
 
-/* 6, 9 and 10 are answers of calls that write; format, open and read do not give them. */
+/*
+ * A call is checked from 1 to 10, and the first that applies is its answer. 1 and 2 are for every call, 3 to 5 for all but
+ * format, 6 and 9 for write, commit and collect, 7 for these and read, 8 for read and write, and 10 for commit (the stripe has
+ * no slot) and collect (no full block has an unnamed page).
+ */
 enum {
     VAZHETTU_DONE = 0,
     VAZHETTU_BAD_GEOMETRY = 1,
@@ -80,6 +88,32 @@ struct vazhettu_report vazhettu_open(struct vazhettu_geometry g, uint8_t *chips,
 struct vazhettu_report vazhettu_read(struct vazhettu_geometry g, const uint8_t *chips, size_t chips_len,
                                      const uint8_t *records, size_t records_len, const uint8_t *slots, size_t slots_len,
                                      uint64_t lost, uint64_t page, uint8_t *buffer, size_t buffer_len);
+
+/*
+ * Writes the w bytes to logical page `page`, below n * s. Once done, the page reads as these bytes; cut or refused, it reads as
+ * before. It programs the page, stores the new partial parity into a free slot, and last the record. If the page's stripe has no
+ * slot and m others have, the one of least cost is committed first, and a chip without a place for a page is collected first: no
+ * write is refused for want of space.
+ */
+struct vazhettu_report vazhettu_write(struct vazhettu_geometry g, uint8_t *chips, size_t chips_len, uint8_t *records,
+                                      size_t records_len, uint8_t *slots, size_t slots_len, uint64_t lost, uint64_t page,
+                                      const uint8_t *bytes, size_t bytes_len, uint64_t allowance);
+
+/*
+ * Commits stripe `stripe`, below s: programs its parity page, made of the partial parity and either the pages not in it or the old
+ * parity and old pages, and stores its record with no olds, no bitmap and no slot. Every page reads as before.
+ */
+struct vazhettu_report vazhettu_commit(struct vazhettu_geometry g, uint8_t *chips, size_t chips_len, uint8_t *records,
+                                       size_t records_len, const uint8_t *slots, size_t slots_len, uint64_t lost,
+                                       uint64_t stripe, uint64_t allowance);
+
+/*
+ * Collects chip `chip`, at most n: of the full blocks with an unnamed page, the one with fewest pages named by records is the
+ * victim; these are copied to the lowest clean block, and the victim is erased. Every page reads as before.
+ */
+struct vazhettu_report vazhettu_collect(struct vazhettu_geometry g, uint8_t *chips, size_t chips_len, uint8_t *records,
+                                        size_t records_len, const uint8_t *slots, size_t slots_len, uint64_t lost, uint64_t chip,
+                                        uint64_t allowance);
 
 #ifdef __cplusplus
 }

@@ -1,11 +1,13 @@
-//! How long one read takes, through the library and through the reference, beside a plain scan of
-//! the same images: at 5 chips of 65,280 pages and of 16,384 pages, a quarter as near as whole
-//! blocks go.
+//! How long one call takes beside a plain scan of the same images, which every call must at least
+//! make: at 5 chips of 65,280 pages and of 16,384 pages, a quarter as near as whole blocks go. Reads
+//! go through the library and through the reference; of writes, commits and collections through the
+//! library, the floor is the plain scan and as many pages moved, blocks erased and records stored.
 //!
 //!     bench [ROUNDS]
 //!
 //! Each time is the best of so many rounds, 9 if not given, all in one run; first with the processor's caches
-//! swept before each round, then with the images left in them as far as they fit.
+//! swept before each round, then with the images left in them as far as they fit. A call that stores finds the
+//! same images in each round.
 
 #[path = "library.rs"]
 #[allow(dead_code)]
@@ -161,6 +163,26 @@ fn floor(chips: &[u8], records: &[u8], w: usize) -> u64 {
     sum
 }
 
+/// The plain scan, and for each page that a call reads or programs one page copied, for each erase a block filled, for each
+/// other store a record copied.
+fn floor_moving(chips: &[u8], records: &[u8], shape: Shape, counts: Status, to: &mut [u8]) -> u64 {
+    let sum = floor(chips, records, shape.w);
+    let len = shape.page_len();
+    let pages = counts.reads.max(counts.programs) as usize;
+    let apart = chips.len() / len / pages.max(1);
+    for i in 0..pages {
+        let from = i * apart * len;
+        to[i % shape.k * len..][..len].copy_from_slice(&chips[from..from + len]);
+    }
+    for _ in 0..counts.erases {
+        black_box(&mut *to).fill(255);
+    }
+    for i in 0..(counts.stores - counts.programs - counts.erases) as usize {
+        black_box(&mut *to)[..RECORD_BYTES].copy_from_slice(&records[i * RECORD_BYTES..][..RECORD_BYTES]);
+    }
+    sum
+}
+
 /// A read: its name, its page and the chip it names as lost.
 struct Request {
     name: &'static str,
@@ -168,18 +190,20 @@ struct Request {
     lost: u64,
 }
 
-/// A page read directly, and one rebuilt each way, from the middle of the store.
-fn requests(shape: Shape, images: &Images) -> [Request; 3] {
+/// A written stripe from the middle of the store, in the partial parity or not.
+fn stripe_of(shape: Shape, images: &Images, slotted: bool) -> usize {
     let view = images.view(shape);
-    let find = |slotted: bool| {
-        (shape.s / 2..shape.s)
-            .find(|&stripe| {
-                let record = view.record(stripe);
-                (record.slot != NO_SLOT) == slotted && record.current[0] != NONE
-            })
-            .expect("most stripes are written")
-    };
-    let (plain, slotted) = (find(false), find(true));
+    (shape.s / 2..shape.s)
+        .find(|&stripe| {
+            let record = view.record(stripe);
+            (record.slot != NO_SLOT) == slotted && record.current[0] != NONE
+        })
+        .expect("most stripes are written")
+}
+
+/// A page read directly, and one rebuilt each way.
+fn requests(shape: Shape, images: &Images) -> [Request; 3] {
+    let [plain, slotted] = [false, true].map(|slotted| stripe_of(shape, images, slotted));
     let page = |stripe: usize| (stripe * shape.n) as u64;
     let chip = |stripe: usize| shape.member_chip(stripe, 0) as u64;
     [
@@ -187,6 +211,73 @@ fn requests(shape: Shape, images: &Images) -> [Request; 3] {
         Request { name: "read rebuilt, parity", page: page(plain), lost: chip(plain) },
         Request { name: "read rebuilt, partial", page: page(slotted), lost: chip(slotted) },
     ]
+}
+
+/// A call that stores, and names no chip as lost.
+#[derive(Clone, Copy)]
+enum Storing {
+    Write(u64),
+    Commit(u64),
+    Collect(u64),
+}
+
+impl Storing {
+    fn by_library(self, g: Geometry, lent: &mut LentImages, data: &mut Lent) -> Status {
+        match self {
+            Storing::Write(page) => library::write(g, lent, NO_CHIP, page, data, u64::MAX),
+            Storing::Commit(stripe) => library::commit(g, lent, NO_CHIP, stripe, u64::MAX),
+            Storing::Collect(chip) => library::collect(g, lent, NO_CHIP, chip, u64::MAX),
+        }
+    }
+
+    fn by_reference(self, g: Geometry, images: &mut Images, data: &[u8]) -> Status {
+        match self {
+            Storing::Write(page) => write(g, images, NO_CHIP, page, data, u64::MAX),
+            Storing::Commit(stripe) => commit(g, images, NO_CHIP, stripe, u64::MAX),
+            Storing::Collect(chip) => collect(g, images, NO_CHIP, chip, u64::MAX),
+        }
+    }
+}
+
+/// What one call changes, with the bytes from before it.
+struct Undo {
+    chips: Vec<(usize, Vec<u8>)>,
+    records: Vec<(usize, Vec<u8>)>,
+    slots: Vec<(usize, Vec<u8>)>,
+}
+
+/// The parts of so many bytes in which the two differ, as they were before.
+fn changed(before: &[u8], after: &[u8], unit: usize) -> Vec<(usize, Vec<u8>)> {
+    let parts = before.chunks(unit).zip(after.chunks(unit)).enumerate();
+    parts.filter(|(_, (b, a))| b != a).map(|(i, (b, _))| (i * unit, b.to_vec())).collect()
+}
+
+fn put_back(image: &mut [u8], parts: &[(usize, Vec<u8>)]) {
+    for (at, bytes) in parts {
+        image[*at..*at + bytes.len()].copy_from_slice(bytes);
+    }
+}
+
+impl Undo {
+    fn of(shape: Shape, before: &LentImages, after: &Images) -> Undo {
+        Undo {
+            chips: changed(before.chips.content(), &after.chips, shape.page_len()),
+            records: changed(before.records.content(), &after.records, RECORD_BYTES),
+            slots: changed(before.slots.content(), &after.slots, shape.w),
+        }
+    }
+
+    fn lent(&self, lent: &mut LentImages) {
+        put_back(lent.chips.content_mut(), &self.chips);
+        put_back(lent.records.content_mut(), &self.records);
+        put_back(lent.slots.content_mut(), &self.slots);
+    }
+
+    fn images(&self, images: &mut Images) {
+        put_back(&mut images.chips, &self.chips);
+        put_back(&mut images.records, &self.records);
+        put_back(&mut images.slots, &self.slots);
+    }
 }
 
 /// The page as it stands on its chip: a rebuilt page must be equal to it.
@@ -232,22 +323,102 @@ struct Clock {
 impl Clock {
     /// The best time of so many rounds of one thing, one after the other, in microseconds.
     fn best(&mut self, mut work: impl FnMut()) -> f64 {
+        self.best_from(&mut (), |()| (), |()| work())
+    }
+
+    /// The same, where something is made ready before each round and is not timed.
+    fn best_from<T>(&mut self, on: &mut T, ready: impl Fn(&mut T), mut work: impl FnMut(&mut T)) -> f64 {
         let mut best = f64::MAX;
         for _ in 0..self.rounds {
+            ready(on);
             self.caches.prepare(&mut self.sweep);
             let start = Instant::now();
-            work();
+            work(on);
             best = best.min(start.elapsed().as_secs_f64() * 1e6);
         }
         best
     }
 }
 
-/// Best times in microseconds: the floor, and for each request the library's and the reference's.
+/// Best times in microseconds: the plain scan, for each read the library's and the reference's, and for each call
+/// that stores the library's and its floor.
 struct Times {
     floor: f64,
     reads: [(&'static str, f64, f64); 3],
+    stored: Vec<(&'static str, f64, f64)>,
     sum: u64,
+}
+
+/// Images in which the next call is made, lent and not, the same.
+struct Bench<'a> {
+    g: Geometry,
+    shape: Shape,
+    images: Images,
+    lent: LentImages,
+    data: Lent,
+    clock: &'a mut Clock,
+}
+
+impl Bench<'_> {
+    /// The library's time and the floor; the images are left as they were.
+    fn storing(&mut self, name: &'static str, call: Storing) -> (&'static str, f64, f64) {
+        let Bench { g, shape, images, lent, data, clock } = self;
+        let expected = call.by_reference(*g, images, data.content());
+        let undo = Undo::of(*shape, lent, images);
+        let mut status = call.by_library(*g, lent, data);
+        if expected.status != DONE || status != expected || !same(lent, images) {
+            println!("FAILED: {name}: {status:?}, expected {expected:?}, or other images");
+            exit(1);
+        }
+        undo.images(images);
+        let by_library =
+            clock.best_from(lent, |lent| undo.lent(lent), |lent| status = call.by_library(*g, lent, data));
+        undo.lent(lent);
+        if status != expected {
+            println!("FAILED: {name}: {status:?} in a later round");
+            exit(1);
+        }
+        let mut to = vec![0; shape.k * shape.page_len()];
+        let floor = clock.best(|| {
+            let (chips, records) = (black_box(lent.chips.content()), black_box(lent.records.content()));
+            black_box(floor_moving(chips, records, *shape, expected, &mut to));
+        });
+        (name, by_library, floor)
+    }
+
+    /// Collects each chip, so that each has a place.
+    fn make_room(&mut self) {
+        for chip in 0..=self.g.n {
+            let call = Storing::Collect(chip);
+            call.by_reference(self.g, &mut self.images, &[]);
+            call.by_library(self.g, &mut self.lent, &mut self.data);
+        }
+    }
+
+    /// First where no chip has a place, then where each has one. All partial parities are in use.
+    fn all_storing(&mut self) -> Vec<(&'static str, f64, f64)> {
+        let [plain, slotted] = [false, true].map(|slotted| stripe_of(self.shape, &self.images, slotted));
+        let page = |stripe: usize| (stripe * MEMBERS_OF_STRIPE) as u64;
+        let chip = self.shape.member_chip(slotted, 0) as u64;
+        let full = [
+            self.storing("collect", Storing::Collect(chip)),
+            self.storing("write that collects", Storing::Write(page(slotted))),
+            self.storing("write that commits and collects", Storing::Write(page(plain))),
+        ];
+        self.make_room();
+        let with_room = [
+            self.storing("write", Storing::Write(page(slotted))),
+            self.storing("write that commits", Storing::Write(page(plain))),
+            self.storing("commit", Storing::Commit(slotted as u64)),
+        ];
+        with_room.into_iter().chain(full).collect()
+    }
+}
+
+fn same(lent: &LentImages, images: &Images) -> bool {
+    lent.chips.content() == images.chips
+        && lent.records.content() == images.records
+        && lent.slots.content() == images.slots
 }
 
 fn measure(random: &mut Random, g: Geometry, shuffled: bool, clock: &mut Clock) -> Times {
@@ -268,7 +439,9 @@ fn measure(random: &mut Random, g: Geometry, shuffled: bool, clock: &mut Clock) 
         check(&expected, &buffer, status, name);
         (name, by_library, by_reference)
     });
-    Times { floor, reads, sum }
+    let data = Lent::new(&random.bytes(shape.w), random);
+    let stored = Bench { g, shape, images, lent, data, clock }.all_storing();
+    Times { floor, reads, stored, sum }
 }
 
 fn report(w: u64, shuffled: bool, caches: Caches, quarter: &Times, full: &Times) {
@@ -279,12 +452,12 @@ fn report(w: u64, shuffled: bool, caches: Caches, quarter: &Times, full: &Times)
     };
     println!("\nW = {w}, {order}, {caches} (times in microseconds; sums {:x}, {:x})", quarter.sum, full.sum);
     println!(
-        "{:<34} {:>10} {:>9} {:>10} {:>9} {:>8}",
-        "", "B = 128", "to floor", "B = 510", "to floor", "growth"
+        "{:<40} {:>10} {:>9} {:>10} {:>9} {:>8}",
+        "", "B = 128", "to scan", "B = 510", "to scan", "growth"
     );
     let line = |name: &str, a: f64, b: f64| {
         println!(
-            "{name:<34} {a:>10.1} {:>9.2} {b:>10.1} {:>9.2} {:>8.2}",
+            "{name:<40} {a:>10.1} {:>9.2} {b:>10.1} {:>9.2} {:>8.2}",
             a / quarter.floor,
             b / full.floor,
             b / a
@@ -296,6 +469,10 @@ fn report(w: u64, shuffled: bool, caches: Caches, quarter: &Times, full: &Times)
     }
     for (a, b) in quarter.reads.iter().zip(&full.reads) {
         line(&format!("reference, {}", a.0), a.2, b.2);
+    }
+    for (a, b) in quarter.stored.iter().zip(&full.stored) {
+        line(&format!("library, {}", a.0), a.1, b.1);
+        line("  floor: scan and pages moved", a.2, b.2);
     }
 }
 

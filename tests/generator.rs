@@ -147,11 +147,16 @@ impl Draft<'_> {
     /// Chooses how many pages of each block are used, writes spares for all pages as if no record
     /// named any, and sets up the chip's pool.
     fn lay_out_chip(&mut self, chip: usize) {
-        let style = self.random.below(3);
+        // A large chip is filled from the bottom mostly, so that places with high numbers come up.
+        let large = self.shape.pages() > 5_000 && !self.random.one_in(4);
+        let style = if large { 3 } else { self.random.below(4) };
+        let begun = self.random.below(self.shape.b);
         let mut used: Vec<usize> = (0..self.shape.b)
-            .map(|_| match style {
+            .map(|block| match style {
                 0 if !self.random.one_in(5) => self.shape.k,
                 1 if self.random.one_in(2) => 0,
+                3 if block < begun => self.shape.k,
+                3 if block > begun => 0,
                 _ => self.random.between(0, self.shape.k),
             })
             .collect();

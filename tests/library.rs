@@ -59,6 +59,44 @@ extern "C" {
         buffer: *mut u8,
         buffer_len: usize,
     ) -> Status;
+    fn vazhettu_write(
+        g: Geometry,
+        chips: *mut u8,
+        chips_len: usize,
+        records: *mut u8,
+        records_len: usize,
+        slots: *mut u8,
+        slots_len: usize,
+        lost: u64,
+        page: u64,
+        bytes: *const u8,
+        bytes_len: usize,
+        allowance: u64,
+    ) -> Status;
+    fn vazhettu_commit(
+        g: Geometry,
+        chips: *mut u8,
+        chips_len: usize,
+        records: *mut u8,
+        records_len: usize,
+        slots: *const u8,
+        slots_len: usize,
+        lost: u64,
+        stripe: u64,
+        allowance: u64,
+    ) -> Status;
+    fn vazhettu_collect(
+        g: Geometry,
+        chips: *mut u8,
+        chips_len: usize,
+        records: *mut u8,
+        records_len: usize,
+        slots: *const u8,
+        slots_len: usize,
+        lost: u64,
+        chip: u64,
+        allowance: u64,
+    ) -> Status;
 }
 
 impl From<reference::Geometry> for Geometry {
@@ -99,11 +137,15 @@ impl Lent {
     }
 
     fn pointer(&mut self) -> *mut u8 {
-        self.bytes[self.start..].as_mut_ptr()
+        self.content_mut().as_mut_ptr()
     }
 
     pub fn content(&self) -> &[u8] {
         &self.bytes[self.start..self.start + self.len]
+    }
+
+    pub fn content_mut(&mut self) -> &mut [u8] {
+        &mut self.bytes[self.start..self.start + self.len]
     }
 
     /// True when no byte around the copy was changed.
@@ -193,6 +235,87 @@ pub fn read(
             page,
             buffer.pointer(),
             buffer.len,
+        )
+    };
+    status.into()
+}
+
+pub fn write(
+    g: reference::Geometry,
+    lent: &mut LentImages,
+    lost: u64,
+    page: u64,
+    data: &mut Lent,
+    allowance: u64,
+) -> reference::Status {
+    let LentImages { chips, records, slots } = lent;
+    // SAFETY: each pointer is to as many bytes as the length beside it, of four vectors.
+    let status = unsafe {
+        vazhettu_write(
+            g.into(),
+            chips.pointer(),
+            chips.len,
+            records.pointer(),
+            records.len,
+            slots.pointer(),
+            slots.len,
+            lost,
+            page,
+            data.pointer(),
+            data.len,
+            allowance,
+        )
+    };
+    status.into()
+}
+
+pub fn commit(
+    g: reference::Geometry,
+    lent: &mut LentImages,
+    lost: u64,
+    stripe: u64,
+    allowance: u64,
+) -> reference::Status {
+    let LentImages { chips, records, slots } = lent;
+    // SAFETY: each pointer is to as many bytes as the length beside it, of three vectors.
+    let status = unsafe {
+        vazhettu_commit(
+            g.into(),
+            chips.pointer(),
+            chips.len,
+            records.pointer(),
+            records.len,
+            slots.pointer(),
+            slots.len,
+            lost,
+            stripe,
+            allowance,
+        )
+    };
+    status.into()
+}
+
+pub fn collect(
+    g: reference::Geometry,
+    lent: &mut LentImages,
+    lost: u64,
+    chip: u64,
+    allowance: u64,
+) -> reference::Status {
+    let LentImages { chips, records, slots } = lent;
+    // SAFETY: each pointer is to as many bytes as the length beside it, of three vectors.
+    let status = unsafe {
+        vazhettu_collect(
+            g.into(),
+            chips.pointer(),
+            chips.len,
+            records.pointer(),
+            records.len,
+            slots.pointer(),
+            slots.len,
+            lost,
+            chip,
+            allowance,
         )
     };
     status.into()

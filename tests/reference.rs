@@ -174,7 +174,7 @@ impl Shape {
     }
 
     /// "p is at least ceil(N / 2)".
-    fn completes(self, p: usize) -> bool {
+    pub fn completes(self, p: usize) -> bool {
         p >= self.n.div_ceil(2)
     }
 }
@@ -398,13 +398,13 @@ impl<'a> View<'a> {
 
     /// The lowest clean place of a block. In a sound block it is 0 when the block is clean, none
     /// when it is full, and another when it is begun.
-    fn clean_place(self, chip: usize, block: usize) -> Option<usize> {
+    pub fn clean_place(self, chip: usize, block: usize) -> Option<usize> {
         self.shape.block_pages(block).position(|page| self.is_clean(chip, page))
     }
 
     /// "the lowest clean page, block by block and page by page, in a block already begun; else
     /// page 0 of the lowest clean block if two or more blocks are clean".
-    fn place(self, chip: usize) -> Option<usize> {
+    pub fn place(self, chip: usize) -> Option<usize> {
         let mut clean = Vec::new();
         for block in 0..self.shape.b {
             match self.clean_place(chip, block) {
@@ -420,13 +420,13 @@ impl<'a> View<'a> {
         }
     }
 
-    fn lowest_clean_block(self, chip: usize) -> Option<usize> {
+    pub fn lowest_clean_block(self, chip: usize) -> Option<usize> {
         (0..self.shape.b).find(|&block| self.clean_place(chip, block) == Some(0))
     }
 
     /// "the full block with an unnamed page that has fewest pages named by records (as current,
     /// old or parity), lowest on ties".
-    fn victim(self, chip: usize) -> Option<usize> {
+    pub fn victim(self, chip: usize) -> Option<usize> {
         let named = self.named_on(chip);
         let count = |block| self.shape.block_pages(block).filter(|&page| named[page]).count();
         (0..self.shape.b)
@@ -511,21 +511,21 @@ impl<'a> View<'a> {
     }
 
     /// The stripes whose record has a slot, with their records.
-    fn stripes_with_slot(self) -> impl Iterator<Item = (usize, Record)> + 'a {
+    pub fn stripes_with_slot(self) -> impl Iterator<Item = (usize, Record)> + 'a {
         (0..self.shape.s)
             .map(move |stripe| (stripe, self.record(stripe)))
             .filter(|(_, record)| record.slot != NO_SLOT)
     }
 
     /// "commit the stripe of least cost, lowest number on ties".
-    fn cheapest_stripe(self) -> Option<usize> {
+    pub fn cheapest_stripe(self) -> Option<usize> {
         self.stripes_with_slot()
             .min_by_key(|(stripe, record)| (self.shape.cost(record.set_bits()), *stripe))
             .map(|(stripe, _)| stripe)
     }
 
     /// "the lowest free slot": the lowest that no record names.
-    fn free_slot(self) -> Option<u8> {
+    pub fn free_slot(self) -> Option<u8> {
         let mut taken = [false; 256];
         for (_, record) in self.stripes_with_slot() {
             taken[record.slot as usize] = true;
