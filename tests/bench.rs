@@ -163,8 +163,8 @@ fn floor(chips: &[u8], records: &[u8], w: usize) -> u64 {
     sum
 }
 
-/// The plain scan, and for each page that a call reads or programs one page copied, for each erase a block filled, for each
-/// other store a record copied.
+/// The plain scan; then one page copied for each that the call reads or programs, a block filled
+/// for each erase, and a record copied for each other store.
 fn floor_moving(chips: &[u8], records: &[u8], shape: Shape, counts: Status, to: &mut [u8]) -> u64 {
     let sum = floor(chips, records, shape.w);
     let len = shape.page_len();
@@ -340,8 +340,8 @@ impl Clock {
     }
 }
 
-/// Best times in microseconds: the plain scan, for each read the library's and the reference's, and for each call
-/// that stores the library's and its floor.
+/// Best times in microseconds: the plain scan, for each read the library's and the reference's, and
+/// for each call that stores the library's and its floor.
 struct Times {
     floor: f64,
     reads: [(&'static str, f64, f64); 3],

@@ -1,4 +1,5 @@
-//! One call through the library and through the reference, compared answer by answer, count by count and byte by byte.
+//! One call through the library and through the reference, compared answer by answer, count by
+//! count and byte by byte.
 
 use crate::coverage::Coverage;
 use crate::generator::ALL;
@@ -145,8 +146,8 @@ impl Comparison {
         exit(1);
     }
 
-    /// The call through the reference, on the images, and through the library, on copies; what they leave must be
-    /// the same.
+    /// The call through the reference, on the images, and through the library, on copies; what
+    /// they leave must be the same.
     pub fn call(&mut self, random: &mut Random, g: Geometry, images: &mut Images, call: &Call) -> Status {
         self.on_both(random, g, images, call).0
     }
@@ -216,8 +217,8 @@ impl Comparison {
         self.fail(g, &text);
     }
 
-    /// A storing call at every allowance from 0 to one more than its list has stores, each from the same images, and
-    /// what `after` does with each of the images that are left.
+    /// A write, commit or collection at every allowance from 0 to one more than its list has
+    /// stores, each from the same images; `after` goes on with what each leaves.
     pub fn every_allowance(
         &mut self,
         random: &mut Random,

@@ -262,25 +262,22 @@ fn store_sound(to: &mut Comparison, random: &mut Random, g: Geometry, shape: Sha
     if random.one_in(2) {
         reference::open(g, images, NO_CHIP, ALL);
     }
-    if shape.pages() < 500 && random.one_in(2) {
-        collect_each(to, random, g, images);
+    let collections = (0..=g.n).map(|chip| Call::Collect { lost: NO_CHIP, chip, allowance: ALL });
+    if shape.k > 60 {
+        let longest = collections.max_by_key(|call| call.length(g, images)).expect("there are chips");
+        to.every_allowance(random, g, images, &longest, |_, _, _, _| {});
+    } else if random.one_in(2) {
+        for call in collections {
+            to.call(random, g, &mut images.clone(), &call);
+        }
     }
     for _ in 0..random.between(1, 4) {
         let call = any_storing(random, images, shape, NO_CHIP);
-        let every = if shape.k > 60 { 2 } else { 6 };
-        if shape.pages() < 5_000 && random.one_in(every) {
+        if shape.pages() < 5_000 && random.one_in(6) {
             to.every_allowance(random, g, images, &call, |_, _, _, _| {});
         }
         let call = limited(random, g, images, call);
         to.call(random, g, images, &call);
-    }
-}
-
-/// Each chip collected, from the same images.
-fn collect_each(to: &mut Comparison, random: &mut Random, g: Geometry, images: &Images) {
-    for chip in 0..=g.n {
-        let call = Call::Collect { lost: NO_CHIP, chip, allowance: ALL };
-        to.call(random, g, &mut images.clone(), &call);
     }
 }
 

@@ -81,10 +81,10 @@ pub fn good_geometry(random: &mut Random) -> Geometry {
         0 => (k, b) = random.pick(&[(85, 771), (128, 511), (64, 1_023), (127, 516), (63, 1_024)]),
         1..=3 => (k, b, m) = (85, 771, random.pick(&[1, 254])),
         4..=49 => (k, b, m) = (random.between(16, 20), random.between(17, 24), 254),
-        50..=59 => (k, b) = (128, random.between(2, 3)),
-        60..=69 => (k, b) = (random.between(2, 3), 1_024),
-        70..=99 => w = 4_096,
-        100..=299 => w = 16 * random.between(1, 8),
+        50..=74 => (k, b) = (128, random.between(2, 3)),
+        75..=84 => (k, b) = (random.between(2, 3), 1_024),
+        85..=114 => w = 4_096,
+        115..=299 => w = 16 * random.between(1, 8),
         300..=399 => (k, b) = (random.between(2, 16), random.between(2, 16)),
         _ => {}
     }
@@ -100,8 +100,8 @@ pub fn good_geometry(random: &mut Random) -> Geometry {
     Geometry { n, w: w as u64, k: k as u64, b: b as u64, s: s as u64, m: m as u64 }
 }
 
-/// For lists of calls: small mostly, so that commits and collections are frequent; K, B, S and M at their limits
-/// often.
+/// For lists of calls: small mostly, so that commits and collections are frequent; K, B, S and M at
+/// their limits often.
 pub fn list_geometry(random: &mut Random) -> Geometry {
     let n = random.between(2, 6);
     let (mut w, mut k, mut b) = (16, random.pick(&[2, 2, 3, 4, 5]), random.pick(&[2, 2, 3, 4, 5, 6]));

@@ -198,8 +198,8 @@ impl Store {
         }
     }
 
-    /// The book with no chip lost, and with each chip lost in turn: every page in one filling of the chip, and up to
-    /// `SOME` pages in each. On large chips, and of a large book, it is a part of the pages.
+    /// The book with no chip lost, and with each chip lost in turn: every page in one filling of
+    /// the chip, some in each. Of a large book it is a part.
     fn hold_all(&self, to: &mut Comparison, random: &mut Random) {
         let mut pages: Vec<usize> = (0..self.book.len()).collect();
         random.shuffle(&mut pages);
@@ -216,8 +216,8 @@ impl Store {
         }
     }
 
-    /// A storing call at every allowance. After a cut the book is as before; after an open, or several that are cut,
-    /// it still is.
+    /// A call at every allowance. After a cut the book is as before; after an open, or several that are cut, it
+    /// still is.
     fn every_allowance(&self, to: &mut Comparison, random: &mut Random, call: &Call) {
         to.every_allowance(random, self.g, &self.images, call, |to, random, mut left, status| {
             if status.status != CUT || !random.one_in(3) {

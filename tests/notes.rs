@@ -7,8 +7,8 @@ use crate::geometries::limits_reached;
 use crate::plan::Plan;
 use crate::reference::*;
 
-/// Counts the points that the call came by. An error means that the coverage and the reference are at odds on the
-/// length of a list.
+/// Counts the points that the call came by. An error means that the coverage and the reference are
+/// at odds on the length of a list.
 pub fn note(
     coverage: &mut Coverage,
     g: Geometry,

@@ -1,5 +1,5 @@
-//! The list of a write, a commit or a collection, told in its parts: which part a cut fell in, and which points of the
-//! coverage the stores that were made have shown.
+//! The list of a write, a commit or a collection, told in its parts: which part a cut fell in, and
+//! which points of the coverage the stores that were made have shown.
 
 use crate::coverage::Coverage;
 use crate::generator::ALL;
