@@ -152,7 +152,7 @@ fn next_byte() -> u8 {
     if got < 1 { b'\n' } else { byte[0] }
 }
 
-// Takes the bytes of a line up to its newline, eleven at most: no command has as many.
+// Takes the bytes of a line up to its newline, eleven at most: no command has as many (`command-short` of `commands`).
 fn next_line(line: &mut [u8; 11]) -> usize
     ensures { λ r. ⌜ r ≤ 11 ⌝ }
 {

@@ -31,3 +31,14 @@ given-within line c (x-line ds dec) = omega (arith, line-length (code "x") ds []
 -- letter and number of a command stand in its line
 pub number-within : (line : List ℕ) → commandOf line .letter ≢ 0 → commandOf line .digits + 2 ≤ length line
 number-within line h = given-within line (commandOf line) (listed line h)
+
+given-short : (line : List ℕ) (c : Command) → Gives line c → length line ≤ 10
+given-short line c (w-line ds high low dec h l) =
+    omega (arith, dec .few, line-length (code "w") ds (code " " ∷ spelled high ∷ spelled low ∷ []))
+given-short line c (r-line ds dec) = omega (arith, dec .few, line-length (code "r") ds [])
+given-short line c (c-line ds dec) = omega (arith, dec .few, line-length (code "c") ds [])
+given-short line c (x-line ds dec) = omega (arith, dec .few, line-length (code "x") ds [])
+
+-- no command has as many as eleven bytes, so a reader may stop there
+pub command-short : (line : List ℕ) → commandOf line .letter ≢ 0 → length line ≤ 10
+command-short line h = given-short line (commandOf line) (listed line h)

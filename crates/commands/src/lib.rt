@@ -16,6 +16,7 @@ pub struct Command {
     pub byte: u8,
 }
 
+// What any other line comes to.
 fn no_command() -> Command
     ensures { λ r. ⌜ r ≡ other ⌝ }
 {
@@ -40,6 +41,7 @@ fn byte_at(s: &[u8], i: usize) -> u8
     if i < s.len() { s[i] } else { 0 }
 }
 
+// The value of a digit, and 16 for any other byte.
 fn digit_value(b: u8) -> u8
     ensures { λ r. ⌜ r ≡ digitValue b ⌝ }
 {

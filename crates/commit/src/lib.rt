@@ -69,7 +69,7 @@ fn cost_of(g: Geometry, p: usize) -> usize
     if most_in_partial(g, p) { n - p } else { p + 1 }
 }
 
-// The stripe of least cost, the lowest on ties.
+// Of the stripes with a slot the one of least cost, the lowest on ties.
 pub fn cheapest(records: &[u8], g: Geometry) -> Found
     requires { ⌜ RecordsFit g (now records) ⌝ }
     ensures { λ r. ⌜ r ≡ cheapestOf (layoutOf g) (recordAt (layoutOf g) (now (records .entry))) ⌝ }

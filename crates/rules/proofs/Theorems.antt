@@ -65,7 +65,7 @@ module _ (l : Layout) where
     pub images : (s : Images) (lost : ℕ)
         → ((lengths l s ≡ true) × (recordsCheck l s ≡ true) × (sparesCheck l s lost ≡ true)) ↔ SoundBut l lost s
 
-  -- Soundness is kept: by every prefix of the list of every call that is not refused, and by a format's whole list.
+  -- Soundness is kept: by every prefix of the list of every call but format that is not refused, and by a format's whole list.
   pub record SoundnessKept : Type 0 where
     pub format : (s : Images) → limits l ≡ true → lengths l s ≡ true → Sound l (applyAll l (formatSteps l) s)
     pub open-call : (s : Images) (lost : ℕ) → openCheck l s lost ≡ Passed → Every l (SoundBut l lost) (openSteps l lost s) s

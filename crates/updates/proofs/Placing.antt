@@ -52,8 +52,8 @@ module _ {g : Geometry} {x r : List ℕ} (h : Settled g x r) where
   record-passes {j} low = record-pass l (recordAt l r j) (stripes g x r (h .checked) .stripe j low)
 
   -- a place that is found is a page of the chip
-  pub place-low : {c k : ℕ} → c ≤ g .n → placeOf l (pageAt l x c) ≡ At k → k < pages l
-  place-low {c} {k} chip found =
+  pub place-fits : {c k : ℕ} → c ≤ g .n → placeOf l (pageAt l x c) ≡ At k → k < pages l
+  place-fits {c} {k} chip found =
       let o = place-at l (u .within) (recordAt l r) (pageAt l x c) c (collectionAt l r) (chip-is-sound g x r (h .checked) c chip) (rest-collects (collectionAt l r) c (h .at-rest)) k found in
       rw (o .is) (page-in-fits l (o .block) (o .place) (o .fillable .block) (o .fillable .place))
 
@@ -99,7 +99,7 @@ module _ {g : Geometry} {x r : List ℕ} (h : Settled g x r) where
         unfolding placed atPlace whenFound
         placed-nowhere found = ran-then l p q q (roomSteps l c s) (atPlace l c fill) s t t first (rw found (ran-none l q t (first .sane)))
 
-    -- a commit that may be owed was to be made; where it is not cut the images are as before it
+    -- a commit that may be owed was to be made; where it is not cut the images have passed the tests again
     pub owed-settled : (j : ℕ) {p q : Progress} {x₁ r₁ : List ℕ} → Ran l p (owedSteps l j s) q s (images x₁ r₁ z) → q .cut ≡ false → Settled g x₁ r₁
     owed-settled j {p} {q} {x₁} {r₁} first going =
         let w = images x₁ r₁ z in

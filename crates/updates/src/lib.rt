@@ -118,7 +118,7 @@ pub fn write_member(
         r (images (now (chips .entry)) (now (records .entry)) (now (slots .entry))) (images (now (chips .exit)) (now (records .exit)) (now (slots .exit))) ⌝ }
 {
     let run = commit_owed(chips, records, slots, g, j, p);
-    // past a cut the images are no longer those that the list was worked out for
+    // past a cut no store is made, and the images are not those that the next part is worked out from
     if run.cut {
         return run;
     }

@@ -5,7 +5,7 @@ use borrow.Author.Needs.{needs}
 use Rattle.layout.specs.Layout.{layoutOf}
 use Rattle.rules.specs.Commit.{commitAt, commitSteps}
 use Rattle.collect.proofs.Rooms.{ordered}
-use Rattle.updates.proofs.Placing.{record-passes, place-low, room-settled, room-slotted, placed-cut, placed-at, placed-nowhere, placed-on}
+use Rattle.updates.proofs.Placing.{record-passes, place-fits, room-settled, room-slotted, placed-cut, placed-at, placed-nowhere, placed-on}
 use Rattle.updates.proofs.commit_stripe.Statement.{statement}
 use Rattle.updates.proofs.commit_stripe.Tie as tie
 
@@ -53,7 +53,7 @@ commit-at-requires c κs =
       r .checked .records-pass .fit,
       s .pre .1,
       s .pre .2,
-      place-low r (on .1) (sym (c .before .before .before .before .before .place-on .ensures) ∙ c .before .before .before .q .given .1),
+      place-fits r (on .1) (sym (c .before .before .before .before .before .place-on .ensures) ∙ c .before .before .before .q .given .1),
       first .sane,
       record-passes r (s .pre .2),
       room-slotted (s .pre .0) (s .pre .1) (on .1) first going (s .pre .2) (s .pre .4),

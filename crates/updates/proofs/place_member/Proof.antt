@@ -5,7 +5,7 @@ use borrow.Author.Needs.{needs}
 use Rattle.layout.specs.Layout.{layoutOf}
 use Rattle.rules.specs.Write.{writeAt}
 use Rattle.collect.proofs.Rooms.{ordered}
-use Rattle.updates.proofs.Placing.{record-passes, place-low, room-settled, placed-cut, placed-at, placed-nowhere, placed-on}
+use Rattle.updates.proofs.Placing.{record-passes, place-fits, room-settled, placed-cut, placed-at, placed-nowhere, placed-on}
 use Rattle.updates.proofs.place_member.Statement.{statement}
 use Rattle.updates.proofs.place_member.Tie as tie
 
@@ -54,7 +54,7 @@ write-at-requires c κs =
       s .pre .2,
       s .pre .3,
       s .pre .4,
-      place-low r (on .1) (sym (c .before .before .before .before .before .before .place-on .ensures) ∙ c .before .before .before .before .q .given .1),
+      place-fits r (on .1) (sym (c .before .before .before .before .before .before .place-on .ensures) ∙ c .before .before .before .before .q .given .1),
       record-passes r (s .pre .2),
       first .sane,
     )

@@ -3,7 +3,7 @@
 //! go through the library and through the reference; of writes, commits and collections through the
 //! library, the floor is the plain scan and as many pages moved, blocks erased and records stored.
 //!
-//!     bench [ROUNDS]
+//!     measure [ROUNDS]
 //!
 //! Each time is the best of so many rounds, 9 if not given, all in one run; first with the processor's caches
 //! swept before each round, then with the images left in them as far as they fit. A call that stores finds the
@@ -479,7 +479,7 @@ fn report(w: u64, shuffled: bool, caches: Caches, quarter: &Times, full: &Times)
 fn main() {
     let rounds = std::env::args().nth(1).map_or(Ok(9), |text| text.parse()).unwrap_or(0);
     if rounds == 0 {
-        println!("usage: bench [ROUNDS]");
+        println!("usage: measure [ROUNDS]");
         exit(2);
     }
     let [quarter, full] = [128, 510].map(|b| geometry(16, b));
