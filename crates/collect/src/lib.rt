@@ -14,7 +14,6 @@ use layout::Geometry;
 use names::named_at;
 use space::clean_block_on;
 use space::place_on;
-use space::victim_on;
 use stores::Progress;
 use units::Found;
 ghost use mathlib.Core.Path.{_≡_};
@@ -36,6 +35,7 @@ ghost use Rattle.codec.specs.Fit.{ChipsFit, RecordsFit};
 ghost use Rattle.codec.specs.Views.{recordFrom, CollectionIs, SmallRecord};
 ghost use Rattle.stores.specs.Allowance.{Sane, Ran, images};
 ghost use Rattle.names.specs.Checked.{Checked, Settled};
+ghost use Rattle.space.specs.Victims.{VictimFor};
 
 // Number q where it was p.
 fn moved(x: usize, p: usize, q: usize) -> usize
@@ -206,15 +206,16 @@ pub fn collect_chip(
     }
 }
 
-// Collects chip c where it has no place.
+// Collects chip c where it has no place; its victim is v.
 pub fn make_room(
     chips: &mut [u8],
     records: &mut [u8],
     g: Geometry,
     c: usize,
+    v: Found,
     p: Progress,
 ) -> Progress
-    requires { ⌜ Settled g (now chips) (now records) × (c ≤ g .n) × Sane p ⌝ }
+    requires { ⌜ Settled g (now chips) (now records) × (c ≤ g .n) × VictimFor g (now chips) (now records) c v × Sane p ⌝ }
     ensures { λ r. ⌜ ((zs : List ℕ) → length zs ≡ slotsLength (layoutOf g) → Ran (layoutOf g) p
         (roomSteps (layoutOf g) c (images (now (chips .entry)) (now (records .entry)) zs))
         r (images (now (chips .entry)) (now (records .entry)) zs) (images (now (chips .exit)) (now (records .exit)) zs)) ⌝ }
@@ -222,8 +223,8 @@ pub fn make_room(
     if let Found::At(_) = place_on(chips, g, c) {
         return p;
     }
-    match victim_on(chips, records, g, c) {
-        Found::At(v) => collect_chip(chips, records, g, c, v, p),
+    match v {
+        Found::At(b) => collect_chip(chips, records, g, c, b, p),
         Found::Nothing => p,
     }
 }

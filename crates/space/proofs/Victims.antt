@@ -1,17 +1,19 @@
--- The search for a victim: a block can be collected where it is full and has fewer named pages than pages; the named ones are counted
--- by their stamps.
-use Prim.Native.Nat.{ℕ, _+_, _≤_, _<_}
+-- The victim: a block can be collected where it is full and has fewer named pages than pages; the named ones are counted by their stamps.
+use Prim.Native.Nat.{ℕ, zero, suc, _≤_, _<_}
+use native.Mathlib.Nat.{le-step, lt-suc-self}
 use native.Mathlib.Omega.{arith}
-use mathlib.Core.Path.{_≡_, sym}
-use mathlib.Core.Bool.{true, false}
+use mathlib.Core.Path.{_≡_, refl, sym, _∙_}
+use mathlib.Core.Bool.{Bool, true, _&&_}
 use mathlib.Core.List.{List}
-use borrow.Author.Tests.{not-true, not-false}
+use lib.Dec.{ltb}
+use borrow.Author.Tests.{not-true, not-false, lt-ltb, le-ltb, ltb-true}
+use Rattle.units.specs.declared.Found.{Found}
 use Rattle.units.specs.declared.Found.the-variants.{At, Nothing}
-use Rattle.units.specs.Look.{someBelow}
-use Rattle.units.proofs.Looks.{by-test, both, some-at, some-none}
+use Rattle.units.specs.Look.{someBelow, better, leastBelow}
+use Rattle.units.proofs.Looks.{by-test, by-order, some-at, some-none, least-at}
 use Rattle.units.proofs.Counts.{count-cong, count-all, count-less}
 use Rattle.units.proofs.Tests.{and-both}
-use Rattle.units.proofs.Leasts.{Best, best-start, best-takes, best-stays, best-found, best-nothing}
+use Rattle.units.proofs.Tallies.{same-tests}
 use Rattle.layout.specs.declared.Geometry.{Geometry}
 use Rattle.layout.specs.Layout.{Layout, layoutOf, pageIn}
 use Rattle.layout.specs.Page.{Page, pageAt}
@@ -22,8 +24,23 @@ use Rattle.rules.specs.Blocks.{namedIn, unnamedIn, fullBlock}
 use Rattle.rules.specs.Collect.{collectable, namedCount, victimOf}
 use Rattle.names.specs.Stamps.{TagsPass}
 use Rattle.names.proofs.Stamping.{named-stamped}
-use Rattle.spares.specs.declared.Scan.{Scan}
-use Rattle.spares.specs.Scans.{stampedIn, blockScan}
+use Rattle.spares.specs.declared.ChipScan.{ChipScan}
+use Rattle.spares.specs.Scans.{stampedIn, stampedCount, loose, Scanned, AllScanned}
+use Rattle.space.specs.Victims.{victimIn, Victims}
+
+-- ---- the least of numbers
+
+-- by two measures that agree on the best so far and on n
+better-cong : (m k : ℕ → ℕ) (found : Found) (n : ℕ) → m n ≡ k n → ((i : ℕ) → found ≡ At i → m i ≡ k i) → better m found n ≡ better k found n
+better-cong m k (At i) n e h = rw (e, h i refl)
+better-cong m k Nothing n e h = refl
+
+-- by tests and measures that agree
+least-cong : (n : ℕ) (f g : ℕ → Bool) (m k : ℕ → ℕ) → ((i : ℕ) → i < n → f i ≡ g i) → ((i : ℕ) → i < n → m i ≡ k i) → leastBelow n f m ≡ leastBelow n g k
+unfolding leastBelow
+least-cong zero f g m k same alike = refl
+least-cong (suc n) f g m k same alike =
+    rw (least-cong n f g m k (λ i low. same i (le-step low)) (λ i low. alike i (le-step low)), same n (lt-suc-self n), better-cong m k (leastBelow n g k) n (alike n (lt-suc-self n)) (λ i e. alike i (le-step (least-at n g k i e .0))))
 
 -- ---- block b of chip c, with the chip's pages x and the records r
 
@@ -45,49 +62,45 @@ module _ (l : Layout) (c : ℕ) (x : ℕ → Page) (r : ℕ → Record) (b : ℕ
       let (i, low, nay) = some-at K (unnamedIn l r c b) s in
       (full, count-less K (namedIn l r c b) i low (not-true (namedIn l r c b i) nay))
 
--- where every named page is rightly stamped, the scan of a block counts its named pages
-pub scan-counts : {g : Geometry} {chips records : List ℕ} {c : ℕ} (b : ℕ) {s : Scan} → TagsPass g chips records c → b < g .b
-    → s ≡ blockScan (layoutOf g) (recordAt (layoutOf g) records) (pageAt (layoutOf g) chips c) c b
-    → s .named ≡ namedCount (layoutOf g) c (pageAt (layoutOf g) chips c) (recordAt (layoutOf g) records) b
-unfolding blockScan namedCount
-scan-counts {g} {chips} {records} {c} b h low e =
-    let l = layoutOf g in
-    let r = recordAt l records in
-    let x = pageAt l chips c in
-    rw e (sym (count-cong (g .k) (namedIn l r c b) (stampedIn l r x c b) (λ i place.
-    named-stamped l (within l (h .chips-fit .limited)) r x c (h .tags) (pageIn l b i) (page-in-fits l b i low place))))
+-- ---- a chip on which every named page is rightly stamped
 
--- ---- the loop
+module _ {g : Geometry} {chips records : List ℕ} {c : ℕ} (h : TagsPass g chips records c) where
+  abbrev l : Layout
+  l = layoutOf g
 
--- victim is the answer for the blocks below b, and fewest how many of its pages are named; K stands for no answer
-pub record Chosen (l : Layout) (c : ℕ) (x : ℕ → Page) (r : ℕ → Record) (b victim fewest : ℕ) : Type 0 where
-  pub best : Best (collectable l c x r) (namedCount l c x r) (l .K) b victim fewest
+  abbrev r : ℕ → Record
+  r = recordAt l records
 
-module _ {l : Layout} {c : ℕ} {x : ℕ → Page} {r : ℕ → Record} where
-  -- nothing before the first block
-  pub choose-start : Chosen l c x r 0 0 (l .K)
-  choose-start = record { best = best-start (collectable l c x r) (namedCount l c x r) (l .K) 0 }
+  abbrev x : ℕ → Page
+  x = pageAt l chips c
 
-  module _ {b victim fewest : ℕ} (h : Chosen l c x r b victim fewest) where
-    -- block b is not full
-    pub choose-passes : fullBlock l x b ≡ false → Chosen l c x r (b + 1) victim fewest
-    choose-passes t = record { best = best-stays (h .best) (λ s. both (fullBlock l x b) (collectable-is l c x r b s .0) t) }
+  -- the stamps of a block count its named pages
+  stamped-named : (b : ℕ) → b < g .b → stampedCount l r x c b ≡ namedCount l c x r b
+  unfolding stampedCount namedCount
+  stamped-named b low =
+      sym (count-cong (g .k) (namedIn l r c b) (stampedIn l r x c b) (λ i place.
+      named-stamped l (within l (h .chips-fit .limited)) r x c (h .tags) (pageIn l b i) (page-in-fits l b i low place)))
 
-    -- block b has n named pages
-    module _ {n : ℕ} (e : n ≡ namedCount l c x r b) where
-      -- fewer than any before: it is full
-      pub choose-takes : fullBlock l x b ≡ true → n < fewest → Chosen l c x r (b + 1) b n
-      choose-takes t less = rw e (record { best = best-takes (h .best) (collectable-by l c x r b t (omega (arith, h .best .high))) (omega arith) })
+  -- so a block is loose where it can be collected
+  loose-collectable : (b : ℕ) → b < g .b → loose l r x c b ≡ collectable l c x r b
+  unfolding loose
+  loose-collectable b low =
+      same-tests (fullBlock l x b && ltb (stampedCount l r x c b) (g .k)) (collectable l c x r b)
+      (λ t. let (full, few) = and-both (fullBlock l x b) (ltb (stampedCount l r x c b) (g .k)) t in
+      collectable-by l c x r b full (rw (stamped-named b low) at (ltb-true (stampedCount l r x c b) (g .k) few)))
+      (λ t. let (full, few) = collectable-is l c x r b t in
+      rw (full, stamped-named b low) (lt-ltb (namedCount l c x r b) (g .k) few))
 
-      -- no fewer
-      pub choose-stays : fewest ≤ n → Chosen l c x r (b + 1) victim fewest
-      choose-stays more = record { best = best-stays (h .best) (λ s. (omega arith, collectable-is l c x r b s .1)) }
+  -- the scan of the whole chip has found the victim
+  pub victim-found : {s : ChipScan} → Scanned l r x c (g .b) s → victimIn (g .k) s ≡ victimOf l c x r
+  unfolding victimIn victimOf
+  victim-found {s} e =
+      let same = least-cong (g .b) (loose l r x c) (collectable l c x r) (stampedCount l r x c) (namedCount l c x r) loose-collectable stamped-named in
+      by-order (s .fewest) (g .k)
+      (λ few. rw (lt-ltb (s .fewest) (g .k) few) (sym (e .fewest few .0) ∙ same))
+      (λ most. rw (le-ltb (s .fewest) (g .k) most) (sym (e .nothing (omega (arith, e .high))) ∙ same))
 
-    -- at the end
-    pub choose-found : b ≡ l .B → fewest < l .K → At victim ≡ victimOf l c x r
-    unfolding victimOf
-    choose-found e few = sym (rw e at (best-found (h .best) few))
-
-    pub choose-nothing : b ≡ l .B → l .K ≤ fewest → Nothing ≡ victimOf l c x r
-    unfolding victimOf
-    choose-nothing e more = sym (rw e at (best-nothing (h .best) more))
+-- of every chip
+pub victims-known : {g : Geometry} {chips records : List ℕ} {scans : List ChipScan} → ((c : ℕ) → c ≤ g .n → TagsPass g chips records c) → (lost : ℕ) → g .n < lost
+    → AllScanned (layoutOf g) (recordAt (layoutOf g) records) (pageAt (layoutOf g) chips) lost (g .b) scans → Victims g chips records scans
+victims-known tags lost high h = record { long = h .long; at = λ c low. victim-found (tags c low) (h .at c low (λ q. omega arith)) }

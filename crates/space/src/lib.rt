@@ -3,19 +3,19 @@
 use codec::page_offset;
 use layout::Geometry;
 use slices::byte;
-use spares::scan_block;
+use spares::ChipScan;
+use spares::scan_chip;
 use units::Found;
 ghost use mathlib.Core.Path.{_≡_};
 ghost use Prim.Native.Nat.{_≤_, _<_};
 ghost use Rattle.layout.specs.Layout.{layoutOf, pages};
 ghost use Rattle.layout.specs.Page.{pageAt, clean as isClean};
-ghost use Rattle.layout.specs.Record.{recordAt};
 ghost use Rattle.rules.specs.Blocks.{lowestCleanBlock};
-ghost use Rattle.rules.specs.Collect.{victimOf};
 ghost use Rattle.rules.specs.Place.{placeOf};
 ghost use Rattle.codec.specs.Fit.{ChipsFit};
 ghost use Rattle.names.specs.Stamps.{TagsPass};
 ghost use Rattle.space.specs.Ordered.{Ordered};
+ghost use Rattle.space.specs.Victims.{victimIn, VictimFor};
 
 // Whether page p of chip c is clean.
 fn is_clean(chips: &[u8], g: Geometry, c: usize, p: usize) -> bool
@@ -86,29 +86,25 @@ pub fn clean_block_on(chips: &[u8], g: Geometry, c: usize) -> Found
     Found::Nothing
 }
 
-// The full block of chip c with fewest named pages, if one has a page that is not named.
-pub fn victim_on(chips: &[u8], records: &[u8], g: Geometry, c: usize) -> Found
-    requires { ⌜ Ordered g (now chips) c × TagsPass g (now chips) (now records) c ⌝ }
-    ensures { λ r. ⌜ r ≡ victimOf (layoutOf g) c (pageAt (layoutOf g) (now (chips .entry)) c) (recordAt (layoutOf g) (now (records .entry))) ⌝ }
+// The victim that the scan of a whole chip has found, if any.
+pub fn victim_in(g: Geometry, s: ChipScan) -> Found
+    ensures { λ r. ⌜ r ≡ victimIn (g .k) s ⌝ }
 {
-    let blocks = g.b as usize;
-    let k = g.k as usize;
-    let mut victim: usize = 0;
-    let mut fewest = k;
-    let mut b = 0;
-    while b < blocks {
-        if !is_clean(chips, g, c, b * k + k - 1) {
-            let scan = scan_block(chips, records, g, c, b);
-            if scan.named < fewest {
-                victim = b;
-                fewest = scan.named;
-            }
-        }
-        b += 1;
-    }
-    if fewest < k {
-        Found::At(victim)
+    if s.fewest < g.k as usize {
+        Found::At(s.victim)
     } else {
         Found::Nothing
     }
+}
+
+// The full block of chip c with fewest named pages, if one has a page that is not named. Where the chip has a place nobody asks for
+// it, and nothing is said.
+pub fn victim_on(chips: &[u8], records: &[u8], g: Geometry, c: usize) -> Found
+    requires { ⌜ Ordered g (now chips) c × TagsPass g (now chips) (now records) c ⌝ }
+    ensures { λ r. ⌜ VictimFor g (now (chips .entry)) (now (records .entry)) c r ⌝ }
+{
+    if let Found::At(_) = place_on(chips, g, c) {
+        return Found::Nothing;
+    }
+    victim_in(g, scan_chip(chips, records, g, c))
 }

@@ -1,25 +1,27 @@
 -- What one pass over the spare bytes of a chip brings.
 use Prim.Native.Nat.{ℕ, _+_, _*_, _/_, _%_, _≤_, _<_}
 use mathlib.Core.Path.{_≡_}
-use mathlib.Core.Bool.{Bool, true, not, cond, _&&_, _||_}
+use mathlib.Core.Bool.{Bool, true, false, not, cond, _&&_, _||_}
 use mathlib.Core.List.{List}
 use mathlib.Core.Logic.{_≢_}
-use lib.ListN.{getD}
+use lib.ListN.{length, getD}
 use lib.Dec.{eqb, ltb}
 use Rattle.units.specs.Number.{number}
 use Rattle.units.specs.Units.{part}
-use Rattle.units.specs.Look.{allBelow, someBelow, countBelow}
-use Rattle.layout.specs.Layout.{Layout, pages, pageIn}
+use Rattle.units.specs.declared.Found.the-variants.{At, Nothing}
+use Rattle.units.specs.Look.{allBelow, someBelow, countBelow, leastBelow}
+use Rattle.layout.specs.Layout.{Layout, pageIn}
 use Rattle.layout.specs.Page.{Page}
 use Rattle.layout.specs.Record.{Record}
 use Rattle.layout.specs.Collection.{Collection}
 use Rattle.layout.specs.Rotation.{parityChip, memberOn}
 use Rattle.rules.specs.Names.{kindOn, memberTag}
-use Rattle.rules.specs.Blocks.{cleanBlock, orderedBlock}
+use Rattle.rules.specs.Blocks.{cleanBlock, fullBlock, orderedBlock}
 use Rattle.rules.specs.Sound.{phase1Sound, phase2Sound}
 use Rattle.names.specs.Stamps.{stamped}
 use Rattle.spares.specs.declared.Scan.{Scan}
-use Rattle.spares.specs.declared.Shape.{Shape}
+use Rattle.spares.specs.declared.ChipScan.{ChipScan}
+use Rattle.spares.specs.declared.Fill.{Fill}
 
 -- the tag t is the kind k and behind it the member m
 pub record TagIs (t k m : ℕ) : Type 0 where
@@ -34,8 +36,12 @@ hasNumber records j field p =
     && (eqb (number (part (j * 32 + field) 2 records)) p
     || (not (eqb field 24) && eqb (number (part (j * 32 + field + 12) 2 records)) p))
 
+-- what stands for no chip
+abbrev pub unscanned : ChipScan
+unscanned = record { ordered = false; clean = false; named = 0; victim = 0; fewest = 0 }
+
 module _ (l : Layout) where
-  open Layout l using (K, B, S)
+  open Layout l using (N, K, S)
 
   -- place i of block b of chip c is named by the record that it is stamped for
   abbrev pub stampedIn : (ℕ → Record) → (ℕ → Page) → ℕ → ℕ → ℕ → Bool
@@ -66,27 +72,43 @@ module _ (l : Layout) where
   pub record FieldsFit (stripes fields : List ℕ) : Type 0 where
     pub inside : (i : ℕ) → i < K → getD fields i 0 ≢ 255 → (getD stripes i 0 < S) × (getD fields i 0 ≤ 24)
 
-  -- whether the used pages of block b come first, and whether there are none
-  unfoldable pub shapeOf : (ℕ → Page) → ℕ → Shape
-  shapeOf x b = record { ordered = orderedBlock l x b; clean = cleanBlock l x b }
+  -- whether all pages of block b are clean, and whether none is
+  unfoldable pub fillOf : (ℕ → Page) → ℕ → Fill
+  fillOf x b = record { clean = cleanBlock l x b; full = fullBlock l x b }
 
-  -- of block b
-  unfoldable pub blockScan : (ℕ → Record) → (ℕ → Page) → ℕ → ℕ → Scan
-  blockScan r x c b =
-      record {
-        ordered = orderedBlock l x b;
-        clean = cleanBlock l x b;
-        named = countBelow K (stampedIn r x c b);
-      }
+  module _ (r : ℕ → Record) (x : ℕ → Page) (c : ℕ) where
+    -- how many pages of block b are named by the records that they are stamped for
+    unfoldable pub stampedCount : ℕ → ℕ
+    stampedCount b = countBelow K (stampedIn r x c b)
 
-  -- of the whole chip: all blocks are in order, some block is wholly clean, so many pages are named
-  unfoldable pub chipScan : (ℕ → Record) → (ℕ → Page) → ℕ → Scan
-  chipScan r x c =
-      record {
-        ordered = allBelow B (orderedBlock l x);
-        clean = someBelow B (cleanBlock l x);
-        named = countBelow (pages l) (stamped l r x c);
-      }
+    -- block b is full and not all its pages are
+    unfoldable pub loose : ℕ → Bool
+    loose b = fullBlock l x b && ltb (stampedCount b) K
+
+    -- of block b
+    unfoldable pub blockScan : ℕ → Scan
+    blockScan b =
+        record {
+          ordered = orderedBlock l x b;
+          clean = cleanBlock l x b;
+          full = fullBlock l x b;
+          named = stampedCount b;
+        }
+
+    -- of the blocks below b: all are in order, some block is wholly clean, so many pages are named; of the loose ones the victim has
+    -- fewest named pages
+    pub record Scanned (b : ℕ) (s : ChipScan) : Type 0 where
+      pub orders : s .ordered ≡ allBelow b (orderedBlock l x)
+      pub cleans : s .clean ≡ someBelow b (cleanBlock l x)
+      pub names : s .named ≡ countBelow (b * K) (stamped l r x c)
+      pub high : s .fewest ≤ K
+      pub fewest : s .fewest < K → (leastBelow b loose stampedCount ≡ At (s .victim)) × (stampedCount (s .victim) ≡ s .fewest)
+      pub nothing : s .fewest ≡ K → leastBelow b loose stampedCount ≡ Nothing
+
+  -- of every chip but the lost one, with the pages y of each
+  pub record AllScanned (r : ℕ → Record) (y : ℕ → ℕ → Page) (lost b : ℕ) (scans : List ChipScan) : Type 0 where
+    pub long : length scans ≡ 7
+    pub at : (c : ℕ) → c ≤ N → c ≢ lost → Scanned r (y c) c b (getD scans c unscanned)
 
   -- what a collection under way asks of its chip, with the chip's pages x
   unfoldable pub phaseSound : (ℕ → Record) → (ℕ → Page) → Collection → Bool

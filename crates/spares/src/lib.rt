@@ -13,29 +13,53 @@ use slices::number_at;
 ghost use mathlib.Core.Path.{_≡_};
 ghost use mathlib.Core.Bool.{true};
 ghost use mathlib.Core.List.{List};
-ghost use Prim.Native.Nat.{ℕ, _+_, _*_, _≤_, _<_};
+ghost use Prim.Native.Nat.{ℕ, _+_, _*_, _%_, _≤_, _<_};
 ghost use mathlib.Core.Logic.{_≢_};
 ghost use lib.ListN.{length, getD};
+ghost use lib.Dec.{eqb};
 ghost use Rattle.units.specs.Look.{countBelow};
 ghost use Rattle.layout.specs.Layout.{layoutOf, limits, pages};
 ghost use Rattle.layout.specs.Page.{Page, pageAt};
-ghost use Rattle.layout.specs.Record.{recordAt};
+ghost use Rattle.layout.specs.Record.{Record, recordAt};
 ghost use Rattle.layout.specs.Collection.{collectionAt};
+ghost use Rattle.rules.specs.Blocks.{orderedBlock};
 ghost use Rattle.rules.specs.Sound.{phase1Sound, twinIn, phase2Sound, sparesSound};
 ghost use Rattle.codec.specs.Fit.{ChipsFit, RecordsFit};
 ghost use Rattle.codec.specs.Views.{CollectionIs};
 ghost use Rattle.names.specs.Checked.{RecordsPass};
 ghost use Rattle.names.specs.Stamps.{namesIn, TagsPass};
-ghost use Rattle.spares.specs.Scans.{TagIs, stampedIn, StampsOf, fieldOf, FieldsOf, FieldsFit, hasNumber, shapeOf, blockScan, chipScan, phaseSound};
+ghost use Rattle.spares.specs.Scans.{TagIs, stampedIn, StampsOf, fieldOf, FieldsOf, FieldsFit, hasNumber, fillOf, blockScan, Scanned, AllScanned, phaseSound};
 
-// What a pass over the spares of a block or of a chip brings.
+// What a pass over the spares of a block brings.
 pub struct Scan {
     // no used page follows a clean one
     pub ordered: bool,
-    // the block is wholly clean; of a chip, some block is
+    // every page is clean
+    pub clean: bool,
+    // every page is used
+    pub full: bool,
+    // pages that the records name, each found by its own stamp
+    pub named: usize,
+}
+
+// What the blocks of a chip that were looked at bring.
+pub struct ChipScan {
+    // all are in order
+    pub ordered: bool,
+    // some block is wholly clean
     pub clean: bool,
     // pages that the records name, each found by its own stamp
     pub named: usize,
+    // the full block with fewest named pages, and how many it has; K where every page of every full block is named
+    pub victim: usize,
+    pub fewest: usize,
+}
+
+// What one look at every spare brings.
+pub struct Survey {
+    pub sound: bool,
+    // for each chip but the lost one
+    pub chips: [ChipScan; 7],
 }
 
 // The field of the parity page's number in a record, and what stands for no field.
@@ -43,10 +67,10 @@ const PARITY_FIELD: u16 = 24;
 
 const NO_FIELD: u16 = 255;
 
-// Whether the used pages of a block come first, and whether there are none.
-struct Shape {
-    ordered: bool,
+// Whether all pages of a block are clean, and whether none is.
+struct Fill {
     clean: bool,
+    full: bool,
 }
 
 // The kind at offset a, and the member behind it.
@@ -188,24 +212,44 @@ fn count_named(
     named
 }
 
-// Whether the used pages of a block come first, and whether there are none.
-fn shape_of(g: Geometry, tags: &[u16; 128]) -> Shape
-    requires { ⌜ limits (layoutOf g) ≡ true ⌝ }
-    ensures { λ r. ⌜ ((x : ℕ → Page) (b : ℕ) (stripes : List ℕ) → StampsOf (layoutOf g) x b (now (tags .entry)) stripes → r ≡ shapeOf (layoutOf g) x b) ⌝ }
+// Whether the page with this tag is clean.
+fn is_clean(tag: u16) -> bool
+    ensures { λ r. ⌜ r ≡ eqb (tag % 256) 255 ⌝ }
 {
-    let k = g.k as usize;
+    tag % 256 == 255
+}
+
+// Whether the used pages of a block come first. Two tags are looked at for each page, so that no step waits for the one before it.
+fn is_ordered(g: Geometry, tags: &[u16; 128]) -> bool
+    requires { ⌜ limits (layoutOf g) ≡ true ⌝ }
+    ensures { λ r. ⌜ ((x : ℕ → Page) (b : ℕ) (stripes : List ℕ) → StampsOf (layoutOf g) x b (now (tags .entry)) stripes → r ≡ orderedBlock (layoutOf g) x b) ⌝ }
+{
+    let last = g.k as usize - 1;
     let mut ordered = true;
-    let mut clean = true;
-    let mut used_before = true;
     let mut i = 0;
-    while i < k {
-        let free = tags[i] % 256 == 255;
-        ordered = ordered & (used_before | free);
-        clean = clean & free;
-        used_before = !free;
+    while i < last {
+        ordered = ordered & (!is_clean(tags[i]) | is_clean(tags[i + 1]));
         i += 1;
     }
-    Shape { ordered, clean }
+    ordered
+}
+
+// Whether all pages of a block are clean, and whether none is.
+fn fill_of(g: Geometry, tags: &[u16; 128]) -> Fill
+    requires { ⌜ limits (layoutOf g) ≡ true ⌝ }
+    ensures { λ r. ⌜ ((x : ℕ → Page) (b : ℕ) (stripes : List ℕ) → StampsOf (layoutOf g) x b (now (tags .entry)) stripes → r ≡ fillOf (layoutOf g) x b) ⌝ }
+{
+    let k = g.k as usize;
+    let mut clean = true;
+    let mut full = true;
+    let mut i = 0;
+    while i < k {
+        let free = is_clean(tags[i]);
+        clean = clean & free;
+        full = full & !free;
+        i += 1;
+    }
+    Fill { clean, full }
 }
 
 // One look at each page's spare of block b of chip c.
@@ -218,37 +262,114 @@ pub fn scan_block(chips: &[u8], records: &[u8], g: Geometry, c: usize, b: usize)
     let mut fields = [0u16; 128];
     fetch_stamps(chips, g, c, b, &mut tags, &mut stripes);
     fields_of(g, c, &tags, &stripes, &mut fields);
-    let shape = shape_of(g, &tags);
-    let named = count_named(records, g, b, &stripes, &fields);
+    let fill = fill_of(g, &tags);
     Scan {
-        ordered: shape.ordered,
-        clean: shape.clean,
-        named,
+        ordered: is_ordered(g, &tags),
+        clean: fill.clean,
+        full: fill.full,
+        named: count_named(records, g, b, &stripes, &fields),
+    }
+}
+
+// Of chip c, with s of its blocks below b: the same with block b.
+fn with_block(
+    chips: &[u8],
+    records: &[u8],
+    g: Geometry,
+    c: usize,
+    b: usize,
+    s: ChipScan,
+) -> ChipScan
+    requires { ⌜ ChipsFit g (now chips) × RecordsFit g (now records) × (c ≤ g .n) × (b < g .b)
+        × Scanned (layoutOf g) (recordAt (layoutOf g) (now records)) (pageAt (layoutOf g) (now chips) c) c b s ⌝ }
+    ensures { λ r. ⌜ Scanned (layoutOf g) (recordAt (layoutOf g) (now (records .entry))) (pageAt (layoutOf g) (now (chips .entry)) c) c (b + 1) r ⌝ }
+{
+    let scan = scan_block(chips, records, g, c, b);
+    let mut next = ChipScan {
+        ordered: s.ordered & scan.ordered,
+        clean: s.clean | scan.clean,
+        named: s.named + scan.named,
+        victim: s.victim,
+        fewest: s.fewest,
+    };
+    if scan.full & (scan.named < s.fewest) {
+        next.victim = b;
+        next.fewest = scan.named;
+    }
+    next
+}
+
+// No block yet.
+fn no_block(g: Geometry) -> ChipScan
+    requires { ⌜ limits (layoutOf g) ≡ true ⌝ }
+    ensures { λ s. ⌜ ((r : ℕ → Record) (x : ℕ → Page) (c : ℕ) → Scanned (layoutOf g) r x c 0 s) ⌝ }
+{
+    ChipScan {
+        ordered: true,
+        clean: false,
+        named: 0,
+        victim: 0,
+        fewest: g.k as usize,
     }
 }
 
 // One look at each page's spare of chip c.
-fn scan_chip(chips: &[u8], records: &[u8], g: Geometry, c: usize) -> Scan
+pub fn scan_chip(chips: &[u8], records: &[u8], g: Geometry, c: usize) -> ChipScan
     requires { ⌜ ChipsFit g (now chips) × RecordsFit g (now records) × (c ≤ g .n) ⌝ }
-    ensures { λ r. ⌜ r ≡ chipScan (layoutOf g) (recordAt (layoutOf g) (now (records .entry))) (pageAt (layoutOf g) (now (chips .entry)) c) c ⌝ }
+    ensures { λ r. ⌜ Scanned (layoutOf g) (recordAt (layoutOf g) (now (records .entry))) (pageAt (layoutOf g) (now (chips .entry)) c) c (g .b) r ⌝ }
 {
     let blocks = g.b as usize;
-    let mut ordered = true;
-    let mut clean = false;
-    let mut named: usize = 0;
+    let mut scan = no_block(g);
     let mut b = 0;
     while b < blocks {
-        let scan = scan_block(chips, records, g, c, b);
-        ordered = ordered & scan.ordered;
-        clean = clean | scan.clean;
-        named += scan.named;
+        scan = with_block(chips, records, g, c, b, scan);
         b += 1;
     }
-    Scan {
-        ordered,
-        clean,
-        named,
+    scan
+}
+
+// Block b of every chip but the lost one.
+fn with_row(
+    chips: &[u8],
+    records: &[u8],
+    g: Geometry,
+    lost: usize,
+    b: usize,
+    scans: [ChipScan; 7],
+) -> [ChipScan; 7]
+    requires { ⌜ ChipsFit g (now chips) × RecordsFit g (now records) × (b < g .b)
+        × AllScanned (layoutOf g) (recordAt (layoutOf g) (now records)) (pageAt (layoutOf g) (now chips)) lost b scans ⌝ }
+    ensures { λ r. ⌜ AllScanned (layoutOf g) (recordAt (layoutOf g) (now (records .entry))) (pageAt (layoutOf g) (now (chips .entry))) lost (b + 1) r ⌝ }
+{
+    let n = g.n as usize;
+    let mut next = scans;
+    let mut c = 0;
+    while c <= n {
+        if c != lost {
+            let scan = with_block(chips, records, g, c, b, next[c]);
+            next[c] = scan;
+        }
+        c += 1;
     }
+    next
+}
+
+// One look at each page's spare of every chip but the lost one. Block by block and not chip by chip: chips fill alike, so that a block's
+// stripes are mostly those of the same block on other chips, whose records were just looked at.
+fn scan_all(chips: &[u8], records: &[u8], g: Geometry, lost: usize) -> [ChipScan; 7]
+    requires { ⌜ ChipsFit g (now chips) × RecordsFit g (now records) ⌝ }
+    ensures { λ r. ⌜ AllScanned (layoutOf g) (recordAt (layoutOf g) (now (records .entry))) (pageAt (layoutOf g) (now (chips .entry))) lost (g .b) r ⌝ }
+{
+    let blocks = g.b as usize;
+    let first = no_block(g);
+    let mut scans = [first; 7];
+    let mut b = 0;
+    while b < blocks {
+        let next = with_row(chips, records, g, lost, b, scans);
+        scans = next;
+        b += 1;
+    }
+    scans
 }
 
 // Phase 1: no record names a page of the destination d.
@@ -327,16 +448,18 @@ fn phase_passes(chips: &[u8], records: &[u8], g: Geometry, co: CollectionRecord)
 }
 
 // Whether the spares are sound on every chip but the lost one, where the records have so many page numbers in all.
-pub fn spares_pass(
+fn spares_pass(
     chips: &[u8],
     records: &[u8],
     g: Geometry,
     co: CollectionRecord,
     names: usize,
     lost: usize,
+    scans: [ChipScan; 7],
 ) -> bool
     requires { ⌜ ChipsFit g (now chips) × RecordsPass g (now records) × CollectionIs co (collectionAt (layoutOf g) (now records))
-        × (names ≡ namesIn (layoutOf g) (recordAt (layoutOf g) (now records)) (g .s)) ⌝ }
+        × (names ≡ namesIn (layoutOf g) (recordAt (layoutOf g) (now records)) (g .s))
+        × AllScanned (layoutOf g) (recordAt (layoutOf g) (now records)) (pageAt (layoutOf g) (now chips)) lost (g .b) scans ⌝ }
     ensures { λ r. ⌜ r ≡ sparesSound (layoutOf g) (recordAt (layoutOf g) (now (records .entry))) (pageAt (layoutOf g) (now (chips .entry))) (collectionAt (layoutOf g) (now (records .entry))) lost ⌝ }
 {
     let n = g.n as usize;
@@ -350,7 +473,7 @@ pub fn spares_pass(
     let mut c = 0;
     while c <= n {
         if c != lost {
-            let scan = scan_chip(chips, records, g, c);
+            let scan = scans[c];
             named += scan.named;
             shaped = shaped & scan.ordered & (scan.clean | (busy & (co.chip == c)));
         }
@@ -363,4 +486,26 @@ pub fn spares_pass(
         return true;
     }
     phase_passes(chips, records, g, co)
+}
+
+// One look at every spare, where the records have so many page numbers in all.
+pub fn scan_spares(
+    chips: &[u8],
+    records: &[u8],
+    g: Geometry,
+    co: CollectionRecord,
+    names: usize,
+    lost: usize,
+) -> Survey
+    requires { ⌜ ChipsFit g (now chips) × RecordsPass g (now records) × CollectionIs co (collectionAt (layoutOf g) (now records))
+        × (names ≡ namesIn (layoutOf g) (recordAt (layoutOf g) (now records)) (g .s)) ⌝ }
+    ensures { λ r. ⌜ (r .sound ≡ sparesSound (layoutOf g) (recordAt (layoutOf g) (now (records .entry))) (pageAt (layoutOf g) (now (chips .entry))) (collectionAt (layoutOf g) (now (records .entry))) lost)
+        × AllScanned (layoutOf g) (recordAt (layoutOf g) (now (records .entry))) (pageAt (layoutOf g) (now (chips .entry))) lost (g .b) (r .chips) ⌝ }
+{
+    let scans = scan_all(chips, records, g, lost);
+    let sound = spares_pass(chips, records, g, co, names, lost, scans);
+    Survey {
+        sound,
+        chips: scans,
+    }
 }

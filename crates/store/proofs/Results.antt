@@ -25,6 +25,7 @@ use Rattle.stores.specs.Allowance.{started, Sane, Ran}
 use Rattle.stores.proofs.Allowances.{ran-none}
 use Rattle.rules.specs.declared.Refusal.{Refusal}
 use Rattle.rules.specs.declared.Refusal.the-variants.{LostChip, Records, Spares, Collection, Request, Data, ChipSet, Work}
+use Rattle.rules.specs.declared.Check.{Check}
 use Rattle.rules.specs.declared.Check.the-variants.{Passed, Failed}
 use Rattle.rules.specs.declared.Answer.the-variants.{Refused}
 use Rattle.rules.specs.declared.Reading.the-variants.{Done as ReadDone, Refused as ReadRefused}
@@ -46,6 +47,11 @@ use Rattle.rules.proofs.Lists.EachCall.{open-lost}
 use Rattle.rules.proofs.Lists.Answers.{answerOf, ran-outcome}
 use Rattle.codec.specs.Fit.{ChipsFit, RecordsFit, SlotsFit}
 use Rattle.names.specs.Checked.{Checked, Settled}
+use Rattle.names.proofs.Statements.{tags-pass}
+use Rattle.space.specs.Victims.{Victims}
+use Rattle.space.proofs.Victims.{victims-known}
+use Rattle.store.specs.declared.Look.{Look}
+use Rattle.store.specs.Looks.{Seen}
 
 -- a test that the code has made, and that passed
 pub passed : {r t : Bool} → r ≡ t → not r ≡ false → t ≡ true
@@ -54,6 +60,11 @@ passed {r} e h = sym e ∙ not-false r h
 -- or failed
 pub failed : {r t : Bool} → r ≡ t → not r ≡ true → t ≡ false
 failed {r} e h = sym e ∙ not-true r h
+
+-- a look that ends in a refusal
+pub seen-refused : {g : Geometry} {x r : List ℕ} {lost : ℕ} {look : Look} {n : Refusal} {check : Check} → look .check ≡ Failed n → Failed n ≡ check
+    → (look .check ≡ check) × Seen g x r lost look
+seen-refused {n = n} e f = (e ∙ f, record { scans = λ p. not-passed n (sym e ∙ p) })
 
 -- rows 1 and 2 have passed: the geometry is within the limits, and the images fit it
 pub record BuffersFit (g : Geometry) (s : Images) : Type 0 where
@@ -224,6 +235,13 @@ store-ready g s lost e none-lost =
       slots-fit = fit .fit .slots;
       within-limits = fit .within-limits;
     }
+
+-- then the victim of each chip is known
+pub victims : (g : Geometry) (s : Images) (lost : ℕ) {look : Look} → settledCheck (layoutOf g) s lost Passed ≡ Passed → lost ≡ noChip
+    → look .check ≡ Passed → Seen g (s .chips) (s .records) lost look → Victims g (s .chips) (s .records) (look .chips)
+victims g s lost e none-lost told seen =
+    let h = store-ready g s lost e none-lost in
+    victims-known (tags-pass g (s .chips) (s .records) (h .settled .checked)) lost (omega (arith, h .within-limits .members-high)) (seen .scans told)
 
 pub limits-after : (g : Geometry) (s : Images) (lost : ℕ) → settledCheck (layoutOf g) s lost Passed ≡ Passed → ImagesFit g s
 limits-after g s lost e = images-fit g s lost (images-before (layoutOf g) s lost e .0)

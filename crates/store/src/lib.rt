@@ -15,8 +15,9 @@ use rules::Answer;
 use rules::Check;
 use rules::Reading;
 use rules::Refusal;
-use space::victim_on;
-use spares::spares_pass;
+use space::victim_in;
+use spares::ChipScan;
+use spares::scan_spares;
 use stores::Counts;
 use stores::Progress;
 use units::Found;
@@ -25,11 +26,12 @@ use updates::write_member;
 ghost use mathlib.Core.Path.{_≡_};
 ghost use mathlib.Core.Bool.{cond};
 ghost use Rattle.layout.specs.Layout.{layoutOf};
-ghost use Rattle.rules.specs.declared.Check.the-variants.{Passed};
+ghost use Rattle.rules.specs.declared.Check.the-variants.{Passed, Failed};
 ghost use Rattle.rules.specs.declared.Answer.the-variants.{Cut, Done};
 ghost use Rattle.rules.specs.Refusals.{refusalNumber, buffersCheck, imagesCheck, settledCheck};
 ghost use Rattle.rules.specs.Calls.{Outcome, ReadOutcome, formatCall, openCall, writeCall, commitCall, collectCall, readCall};
 ghost use Rattle.stores.specs.Allowance.{images};
+ghost use Rattle.store.specs.Looks.{Seen};
 
 // The number of a refusal in the table.
 pub fn refusal_number(r: Refusal) -> u64
@@ -62,42 +64,73 @@ fn buffers_check(g: Geometry, chips: &[u8], records: &[u8], slots: &[u8]) -> Che
     Check::Passed
 }
 
+// What the rows about the images come to, and what the look at the spares has brought where they pass.
+struct Look {
+    check: Check,
+    chips: [ChipScan; 7],
+}
+
+// A look that ends in a refusal.
+fn refused(r: Refusal) -> Look
+    ensures { λ o. ⌜ o .check ≡ Failed r ⌝ }
+{
+    let none = ChipScan {
+        ordered: false,
+        clean: false,
+        named: 0,
+        victim: 0,
+        fewest: 0,
+    };
+    Look {
+        check: Check::Failed(r),
+        chips: [none; 7],
+    }
+}
+
 // Rows 1 to 5.
-fn images_check(g: Geometry, chips: &[u8], records: &[u8], slots: &[u8], lost: usize) -> Check
-    ensures { λ r. ⌜ r ≡ imagesCheck (layoutOf g) (images (now (chips .entry)) (now (records .entry)) (now (slots .entry))) lost Passed ⌝ }
+fn images_look(g: Geometry, chips: &[u8], records: &[u8], slots: &[u8], lost: usize) -> Look
+    ensures { λ r. ⌜ (r .check ≡ imagesCheck (layoutOf g) (images (now (chips .entry)) (now (records .entry)) (now (slots .entry))) lost Passed)
+        × Seen g (now (chips .entry)) (now (records .entry)) lost r ⌝ }
 {
     let first = buffers_check(g, chips, records, slots);
     if let Check::Failed(r) = first {
-        return Check::Failed(r);
+        return refused(r);
     }
     let n = g.n as usize;
     if !((lost == 255) | (lost <= n)) {
-        return Check::Failed(Refusal::LostChip);
+        return refused(Refusal::LostChip);
     }
     let scan = scan_records(g, records);
     if !scan.sound {
-        return Check::Failed(Refusal::Records);
+        return refused(Refusal::Records);
     }
     let co = collection_at(records, g);
-    if !spares_pass(chips, records, g, co, scan.names, lost) {
-        return Check::Failed(Refusal::Spares);
+    let survey = scan_spares(chips, records, g, co, scan.names, lost);
+    if !survey.sound {
+        return refused(Refusal::Spares);
     }
-    Check::Passed
+    let scans = survey.chips;
+    Look {
+        check: Check::Passed,
+        chips: scans,
+    }
 }
 
 // Rows 1 to 6.
-fn settled_check(g: Geometry, chips: &[u8], records: &[u8], slots: &[u8], lost: usize) -> Check
-    ensures { λ r. ⌜ r ≡ settledCheck (layoutOf g) (images (now (chips .entry)) (now (records .entry)) (now (slots .entry))) lost Passed ⌝ }
+fn settled_look(g: Geometry, chips: &[u8], records: &[u8], slots: &[u8], lost: usize) -> Look
+    ensures { λ r. ⌜ (r .check ≡ settledCheck (layoutOf g) (images (now (chips .entry)) (now (records .entry)) (now (slots .entry))) lost Passed)
+        × Seen g (now (chips .entry)) (now (records .entry)) lost r ⌝ }
 {
-    let first = images_check(g, chips, records, slots, lost);
+    let look = images_look(g, chips, records, slots, lost);
+    let first = look.check;
     if let Check::Failed(r) = first {
-        return Check::Failed(r);
+        return refused(r);
     }
     let co = collection_at(records, g);
     if co.phase != 0 {
-        return Check::Failed(Refusal::Collection);
+        return refused(Refusal::Collection);
     }
-    Check::Passed
+    look
 }
 
 // The answer of a call that stores.
@@ -144,7 +177,8 @@ pub fn open(
         (record { answer = r; images = images (now (chips .exit)) (now (records .exit)) (now (slots .entry)) })
         (openCall (layoutOf g) (images (now (chips .entry)) (now (records .entry)) (now (slots .entry))) lost allowance) ⌝ }
 {
-    let check = images_check(g, chips, records, slots, lost as usize);
+    let look = images_look(g, chips, records, slots, lost as usize);
+    let check = look.check;
     if let Check::Failed(r) = check {
         return Answer::Refused(r);
     }
@@ -168,7 +202,8 @@ pub fn read(
         (record { answer = r; buffer = now (buffer .exit) })
         (readCall (layoutOf g) (images (now (chips .entry)) (now (records .entry)) (now (slots .entry))) lost page (now (buffer .entry))) ⌝ }
 {
-    let check = images_check(g, chips, records, slots, lost as usize);
+    let look = images_look(g, chips, records, slots, lost as usize);
+    let check = look.check;
     if let Check::Failed(r) = check {
         return Reading::Refused(r);
     }
@@ -204,7 +239,8 @@ pub fn write(
         (record { answer = r; images = images (now (chips .exit)) (now (records .exit)) (now (slots .exit)) })
         (writeCall (layoutOf g) (images (now (chips .entry)) (now (records .entry)) (now (slots .entry))) lost page (now (bytes .entry)) allowance) ⌝ }
 {
-    let check = settled_check(g, chips, records, slots, lost as usize);
+    let look = settled_look(g, chips, records, slots, lost as usize);
+    let check = look.check;
     if let Check::Failed(r) = check {
         return Answer::Refused(r);
     }
@@ -219,7 +255,18 @@ pub fn write(
     }
     let j = (page / g.n) as usize;
     let m = (page % g.n) as usize;
-    answer(write_member(chips, records, slots, g, j, m, bytes, start(allowance)))
+    let scans = look.chips;
+    answer(write_member(
+        chips,
+        records,
+        slots,
+        g,
+        j,
+        m,
+        bytes,
+        scans,
+        start(allowance),
+    ))
 }
 
 // Commits a stripe: its partial parity becomes a parity page, and its slot is free.
@@ -236,7 +283,8 @@ pub fn commit(
         (record { answer = r; images = images (now (chips .exit)) (now (records .exit)) (now (slots .entry)) })
         (commitCall (layoutOf g) (images (now (chips .entry)) (now (records .entry)) (now (slots .entry))) lost stripe allowance) ⌝ }
 {
-    let check = settled_check(g, chips, records, slots, lost as usize);
+    let look = settled_look(g, chips, records, slots, lost as usize);
+    let check = look.check;
     if let Check::Failed(r) = check {
         return Answer::Refused(r);
     }
@@ -250,7 +298,8 @@ pub fn commit(
     if slot_at(records, g, j) == 255 {
         return Answer::Refused(Refusal::Work);
     }
-    answer(commit_stripe(chips, records, slots, g, j, start(allowance)))
+    let scans = look.chips;
+    answer(commit_stripe(chips, records, slots, g, j, scans, start(allowance)))
 }
 
 // Collects a chip: one full block becomes clean.
@@ -267,7 +316,8 @@ pub fn collect(
         (record { answer = r; images = images (now (chips .exit)) (now (records .exit)) (now (slots .entry)) })
         (collectCall (layoutOf g) (images (now (chips .entry)) (now (records .entry)) (now (slots .entry))) lost chip allowance) ⌝ }
 {
-    let check = settled_check(g, chips, records, slots, lost as usize);
+    let look = settled_look(g, chips, records, slots, lost as usize);
+    let check = look.check;
     if let Check::Failed(r) = check {
         return Answer::Refused(r);
     }
@@ -278,7 +328,8 @@ pub fn collect(
         return Answer::Refused(Refusal::ChipSet);
     }
     let c = chip as usize;
-    match victim_on(chips, records, g, c) {
+    let scans = look.chips;
+    match victim_in(g, scans[c]) {
         Found::At(v) => answer(collect_chip(chips, records, g, c, v, start(allowance))),
         Found::Nothing => Answer::Refused(Refusal::Work),
     }

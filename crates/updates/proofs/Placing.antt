@@ -4,6 +4,8 @@ use native.Mathlib.Omega.{arith}
 use mathlib.Core.Path.{_≡_, _∙_}
 use mathlib.Core.Bool.{true, false}
 use mathlib.Core.List.{List, []}
+use lib.ListN.{getD}
+use Rattle.units.specs.declared.Found.{Found}
 use Rattle.units.specs.declared.Found.the-variants.{At, Nothing}
 use Rattle.units.specs.Look.{whenFound}
 use Rattle.units.proofs.Looks.{least-at}
@@ -33,6 +35,9 @@ use Rattle.rules.proofs.Lists.Collecting.{HasPlace, room-leads}
 use Rattle.rules.proofs.Lists.Writing.{Ready, owed-leads}
 use Rattle.codec.specs.Fit.{SlotsFit}
 use Rattle.names.specs.Checked.{Settled}
+use Rattle.spares.specs.declared.ChipScan.{ChipScan}
+use Rattle.spares.specs.Scans.{unscanned}
+use Rattle.space.specs.Victims.{victimIn, VictimFor, Victims}
 use Rattle.names.proofs.Statements.{usable, stripes, chip-is-sound, sound, checked}
 
 -- sound images at rest pass the tests
@@ -46,6 +51,10 @@ module _ {g : Geometry} {x r : List ℕ} (h : Settled g x r) where
 
   u : Usable l
   u = usable g x r (h .checked)
+
+  -- a chip is one of at most seven
+  pub seven : {c : ℕ} → c ≤ g .n → c < 7
+  seven low = omega (arith, u .within .members-high)
 
   -- the record of a stripe is sound
   pub record-passes : {j : ℕ} → j < g .s → recordSound l (recordAt l r j) ≡ true
@@ -112,6 +121,11 @@ module _ {g : Geometry} {x r : List ℕ} (h : Settled g x r) where
 -- a chip by another name
 pub placed-on : (l : Layout) {c d : ℕ} → c ≡ d → (fill : ℕ → Images → List Step) {p q : Progress} {s t : Images} → Ran l p (placed l c fill s) q s t → Ran l p (placed l d fill s) q s t
 placed-on l e fill h = rw e at h
+
+-- the victim of a chip, which may have another name, is known
+pub known-victim : {g : Geometry} {x r : List ℕ} {scans : List ChipScan} {c d : ℕ} {v : Found} → Victims g x r scans → c ≤ g .n → c ≡ d
+    → v ≡ victimIn (g .k) (getD scans c unscanned) → VictimFor g x r d v
+known-victim {c = c} h low same e = rw (← same) (record { is = λ _. e ∙ h .at c low })
 
 -- ---- whether a commit is owed
 

@@ -7,6 +7,9 @@ use commit::cheapest;
 use commit::commit_at;
 use layout::Geometry;
 use space::place_on;
+use space::victim_in;
+use space::victim_on;
+use spares::ChipScan;
 use stores::Progress;
 use units::Found;
 use write::is_owed;
@@ -20,27 +23,29 @@ ghost use Rattle.layout.specs.Rotation.{memberChip};
 ghost use Rattle.layout.specs.Record.{recordAt, hasSlot};
 ghost use Rattle.rules.specs.Place.{placed};
 ghost use Rattle.rules.specs.Commit.{commitSteps};
-ghost use Rattle.rules.specs.Write.{owedSteps, writeAt, writeMember};
+ghost use Rattle.rules.specs.Write.{commitOwed, owedSteps, writeAt, writeMember};
 ghost use Rattle.stores.specs.Allowance.{Sane, Ran, images};
 ghost use Rattle.codec.specs.Fit.{SlotsFit};
 ghost use Rattle.names.specs.Checked.{Settled};
+ghost use Rattle.space.specs.Victims.{VictimFor, Victims};
 
-// Commits stripe j.
+// Commits stripe j, where the victim of each chip is known.
 pub fn commit_stripe(
     chips: &mut [u8],
     records: &mut [u8],
     slots: &[u8],
     g: Geometry,
     j: usize,
+    scans: [ChipScan; 7],
     p: Progress,
 ) -> Progress
     requires { ⌜ Settled g (now chips) (now records) × SlotsFit g (now slots) × (j < g .s) × Sane p
-        × (hasSlot (recordAt (layoutOf g) (now records) j) ≡ true) ⌝ }
+        × (hasSlot (recordAt (layoutOf g) (now records) j) ≡ true) × Victims g (now chips) (now records) scans ⌝ }
     ensures { λ r. ⌜ Ran (layoutOf g) p (commitSteps (layoutOf g) j (images (now (chips .entry)) (now (records .entry)) (now (slots .entry))))
         r (images (now (chips .entry)) (now (records .entry)) (now (slots .entry))) (images (now (chips .exit)) (now (records .exit)) (now (slots .entry))) ⌝ }
 {
     let c = parity_chip(g, j);
-    let run = make_room(chips, records, g, c, p);
+    let run = make_room(chips, records, g, c, victim_in(g, scans[c]), p);
     // past a cut there may be no place yet
     if run.cut {
         return run;
@@ -51,29 +56,28 @@ pub fn commit_stripe(
     }
 }
 
-// Commits the stripe of least cost where a commit is owed for a write to stripe j.
+// Commits the stripe of least cost, which is owed for a write to stripe j.
 fn commit_owed(
     chips: &mut [u8],
     records: &mut [u8],
     slots: &[u8],
     g: Geometry,
     j: usize,
+    scans: [ChipScan; 7],
     p: Progress,
 ) -> Progress
-    requires { ⌜ Settled g (now chips) (now records) × SlotsFit g (now slots) × (j < g .s) × Sane p ⌝ }
+    requires { ⌜ Settled g (now chips) (now records) × SlotsFit g (now slots) × Sane p
+        × (commitOwed (layoutOf g) (recordAt (layoutOf g) (now records)) j ≡ true) × Victims g (now chips) (now records) scans ⌝ }
     ensures { λ r. ⌜ Ran (layoutOf g) p (owedSteps (layoutOf g) j (images (now (chips .entry)) (now (records .entry)) (now (slots .entry))))
         r (images (now (chips .entry)) (now (records .entry)) (now (slots .entry))) (images (now (chips .exit)) (now (records .exit)) (now (slots .entry))) ⌝ }
 {
-    if !is_owed(records, g, j) {
-        return p;
-    }
     match cheapest(records, g) {
-        Found::At(k) => commit_stripe(chips, records, slots, g, k, p),
+        Found::At(k) => commit_stripe(chips, records, slots, g, k, scans, p),
         Found::Nothing => p,
     }
 }
 
-// Finds a place for member m of stripe j and writes it there.
+// Finds a place for member m of stripe j and writes it there; v is the victim of its chip.
 fn place_member(
     chips: &mut [u8],
     records: &mut [u8],
@@ -82,15 +86,17 @@ fn place_member(
     j: usize,
     m: usize,
     bytes: &[u8],
+    v: Found,
     p: Progress,
 ) -> Progress
-    requires { ⌜ Settled g (now chips) (now records) × SlotsFit g (now slots) × (j < g .s) × (m < g .n) × (length (now bytes) ≡ g .w) × Sane p ⌝ }
+    requires { ⌜ Settled g (now chips) (now records) × SlotsFit g (now slots) × (j < g .s) × (m < g .n) × (length (now bytes) ≡ g .w) × Sane p
+        × VictimFor g (now chips) (now records) (memberChip (layoutOf g) j m) v ⌝ }
     ensures { λ r. ⌜ Ran (layoutOf g) p
         (placed (layoutOf g) (memberChip (layoutOf g) j m) (writeAt (layoutOf g) j m (now (bytes .entry))) (images (now (chips .entry)) (now (records .entry)) (now (slots .entry))))
         r (images (now (chips .entry)) (now (records .entry)) (now (slots .entry))) (images (now (chips .exit)) (now (records .exit)) (now (slots .exit))) ⌝ }
 {
     let c = member_chip(g, j, m);
-    let run = make_room(chips, records, g, c, p);
+    let run = make_room(chips, records, g, c, v, p);
     // past a cut there may be no place yet
     if run.cut {
         return run;
@@ -101,7 +107,7 @@ fn place_member(
     }
 }
 
-// Writes member m of stripe j.
+// Writes member m of stripe j, where the victim of each chip is known.
 pub fn write_member(
     chips: &mut [u8],
     records: &mut [u8],
@@ -110,17 +116,26 @@ pub fn write_member(
     j: usize,
     m: usize,
     bytes: &[u8],
+    scans: [ChipScan; 7],
     p: Progress,
 ) -> Progress
-    requires { ⌜ Settled g (now chips) (now records) × SlotsFit g (now slots) × (j < g .s) × (m < g .n) × (length (now bytes) ≡ g .w) × Sane p ⌝ }
+    requires { ⌜ Settled g (now chips) (now records) × SlotsFit g (now slots) × (j < g .s) × (m < g .n) × (length (now bytes) ≡ g .w) × Sane p
+        × Victims g (now chips) (now records) scans ⌝ }
     ensures { λ r. ⌜ Ran (layoutOf g) p
         (writeMember (layoutOf g) j m (now (bytes .entry)) (images (now (chips .entry)) (now (records .entry)) (now (slots .entry))))
         r (images (now (chips .entry)) (now (records .entry)) (now (slots .entry))) (images (now (chips .exit)) (now (records .exit)) (now (slots .exit))) ⌝ }
 {
-    let run = commit_owed(chips, records, slots, g, j, p);
+    let c = member_chip(g, j, m);
+    if !is_owed(records, g, j) {
+        let v = victim_in(g, scans[c]);
+        return place_member(chips, records, slots, g, j, m, bytes, v, p);
+    }
+    let run = commit_owed(chips, records, slots, g, j, scans, p);
     // past a cut no store is made, and the images are not those that the next part is worked out from
     if run.cut {
         return run;
     }
-    place_member(chips, records, slots, g, j, m, bytes, run)
+    // a commit changes what the records name, and so the victims
+    let v = victim_on(chips, records, g, c);
+    place_member(chips, records, slots, g, j, m, bytes, v, run)
 }

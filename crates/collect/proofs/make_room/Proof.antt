@@ -5,7 +5,6 @@ use borrow.Author.Needs.{needs}
 use Rattle.layout.specs.Layout.{layoutOf}
 use Rattle.stores.specs.Allowance.{images}
 use Rattle.stores.proofs.Allowances.{ran-none}
-use Rattle.names.proofs.Statements.{tags-pass}
 use Rattle.collect.proofs.Rooms.{ordered, room-there, room-collects, collect-nothing}
 use Rattle.collect.proofs.make_room.Statement.{statement}
 use Rattle.collect.proofs.make_room.Tie as tie
@@ -26,25 +25,19 @@ returns c =
     let l = layoutOf (a .g) in
     λ zs e.
     let v = images (now (a .chips)) (now (a .records)) zs in
-    rw (room-there l v (a .c) (sym (c .before .before .place-on .ensures) ∙ c .enum-told .given .1)) (ran-none l (a .p) v (s .pre .2))
+    rw (room-there l v (a .c) (sym (c .before .before .place-on .ensures) ∙ c .enum-told .given .1)) (ran-none l (a .p) v (s .pre .3))
 
 enum-told-2 : tie.Need-enum-told-2
 enum-told-2 c = search needs
-
-victim-on-requires : tie.Need-victim-on-requires
-victim-on-requires c κs =
-    let s = c .before .before .before .before .before .before .before .before in
-    let a = s .args in
-    let h = s .pre .0 .checked in
-    (ordered h (s .pre .1), tags-pass (a .g) (now (a .chips)) (now (a .records)) h (a .c) (s .pre .1))
 
 enum-known-v : tie.Need-enum-known-v
 enum-known-v c = search needs
 
 collect-chip-requires : tie.Need-collect-chip-requires
 collect-chip-requires c κs =
-    let h = c .before .before .before .before .before .before .before .before .before .before .before .before .before .before .pre in
-    (h .0, h .1, h .2, sym (c .before .before .before .before .before .victim-on .ensures) ∙ c .before .before .before .v .given .1)
+    let h = c .before .before .before .before .before .before .before .before .before .before .before .pre in
+    let nowhere = sym (c .before .before .before .before .before .before .before .place-on .ensures) ∙ c .before .before .before .before .before .enum-told2 .given .1 in
+    (h .0, h .1, h .3, sym (h .2 .is nowhere) ∙ c .before .before .before .v .given .1)
 
 enum-told-3 : tie.Need-enum-told-3
 enum-told-3 c = search needs
@@ -57,26 +50,24 @@ same-length-3 c = search needs
 
 returns-2 : tie.Need-returns-2
 returns-2 c =
-    let a = c .before .before .before .before .before .before .before .before .before .before .before .before .before .before .before .before .before .before .before .args in
+    let a = c .before .before .before .before .before .before .before .before .before .before .before .before .before .before .before .before .args in
     λ zs e.
-    rw (room-collects (layoutOf (a .g)) (images (now (a .chips)) (now (a .records)) zs) (a .c) (sym (c .before .before .before .before .before .before .before .before .before .before .before .before .before .before .before .place-on .ensures) ∙ c .before .before .before .before .before .before .before .before .before .before .before .before .before .enum-told2 .given .1))
+    rw (room-collects (layoutOf (a .g)) (images (now (a .chips)) (now (a .records)) zs) (a .c) (sym (c .before .before .before .before .before .before .before .before .before .before .before .before .place-on .ensures) ∙ c .before .before .before .before .before .before .before .before .before .before .enum-told2 .given .1))
     (c .before .before .before .before .collect-chip .ensures zs e)
 
 same-length-4 : tie.Need-same-length-4
 same-length-4 c = search needs
 
-same-length-5 : tie.Need-same-length-5
-same-length-5 c = search needs
-
 returns-3 : tie.Need-returns-3
 returns-3 c =
-    let s = c .before .before .before .before .before .before .before .before .before .before .before in
+    let s = c .before .before .before .before .before .before .before .before in
     let a = s .args in
     let l = layoutOf (a .g) in
+    let nowhere = sym (c .before .before .before .before .place-on .ensures) ∙ c .before .before .enum-told2 .given .1 in
     λ zs e.
     let v = images (now (a .chips)) (now (a .records)) zs in
-    rw (room-collects l v (a .c) (sym (c .before .before .before .before .before .before .before .place-on .ensures) ∙ c .before .before .before .before .before .enum-told2 .given .1), collect-nothing l v (a .c) (sym (c .before .before .victim-on .ensures) ∙ c .enum-told3 .given .1))
-    (ran-none l (a .p) v (s .pre .2))
+    rw (room-collects l v (a .c) nowhere, collect-nothing l v (a .c) (sym (s .pre .2 .is nowhere) ∙ c .enum-told3 .given .1))
+    (ran-none l (a .p) v (s .pre .3))
 
 pub make-room-spec : {M : Type 1} → statement M
 make-room-spec =
@@ -87,7 +78,6 @@ make-room-spec =
     same-length
     returns
     enum-told-2
-    victim-on-requires
     enum-known-v
     collect-chip-requires
     enum-told-3
@@ -95,5 +85,4 @@ make-room-spec =
     same-length-3
     returns-2
     same-length-4
-    same-length-5
     returns-3)

@@ -1,33 +1,30 @@
 -- The loop's invariant: what it has found of the blocks below b.
-use Prim.Native.Nat.{_+_, _-_, _≤_}
+use Prim.Native.Nat.{_-_, _≤_}
 use native.Mathlib.Omega.{arith}
+use mathlib.Core.Path.{_≡_}
+use borrow.Author.Needs.{needs}
 use Rattle.layout.specs.Layout.{layoutOf}
 use Rattle.layout.specs.Page.{pageAt}
 use Rattle.layout.specs.Record.{recordAt}
-use Rattle.spares.proofs.Scanning.{start-low, Gathered, gather-start, gather-more, gather-few, gather-all}
+use Rattle.spares.specs.Scans.{Scanned}
 use Rattle.spares.proofs.scan_chip.Statement.{statement}
 use Rattle.spares.proofs.scan_chip.Tie as tie
 
 abbrev Inv-loop : tie.InvT-loop
-Inv-loop chips records g c blocks ordered₀ clean₀ named₀ b₀ ordered clean named b =
-    let l = layoutOf g in
-    (b ≤ g .b) × Gathered l (recordAt l records) (pageAt l chips c) c b ordered clean named
+Inv-loop chips records g c blocks scan₀ b₀ scan b =
+    let l = layoutOf g in (b ≤ g .b) × Scanned l (recordAt l records) (pageAt l chips c) c b scan
 
 abbrev μ-loop : tie.MeasureT-loop
-μ-loop chips records g c blocks ordered₀ clean₀ named₀ b₀ ordered clean named b = g .b - b
+μ-loop chips records g c blocks scan₀ b₀ scan b = g .b - b
+
+no-block-requires : tie.Need-no-block-requires Inv-loop μ-loop
+no-block-requires c κs = search needs
 
 loop-holds : tie.Need-loop-holds Inv-loop μ-loop
-loop-holds c = (omega arith, gather-start)
+loop-holds c = (omega arith, c .no-block .ensures _ _ _)
 
-scan-block-requires : tie.Need-scan-block-requires Inv-loop μ-loop
-scan-block-requires c κs = let h = c .before .before .before .before .pre in (h .0, h .1, h .2, c .loop-test .taken)
-
-add-named : tie.Need-add-named Inv-loop μ-loop
-add-named c =
-    let s = c .before .before .before .before .before .before .before .before in
-    let o = c .before .before .before .before .before .loop in
-    let few = gather-few (gather-more (o .inv .1) (c .before .before .before .scan-block .ensures)) in
-    omega (arith, start-low (s .args .g) (s .pre .0 .limited) (o .b + 1) (omega arith))
+with-block-requires : tie.Need-with-block-requires Inv-loop μ-loop
+with-block-requires c κs = let h = c .before .before .before .before .before .pre in (h .0, h .1, h .2, c .loop-test .taken, c .before .loop .inv .1)
 
 add-b : tie.Need-add-b Inv-loop μ-loop
 add-b c = omega arith
@@ -36,10 +33,10 @@ loop-less : tie.Need-loop-less Inv-loop μ-loop
 loop-less c = omega arith
 
 loop-again : tie.Need-loop-again Inv-loop μ-loop
-loop-again c = (omega arith, gather-more (c .before .before .before .before .before .loop .inv .1) (c .before .before .before .scan-block .ensures))
+loop-again c = (omega arith, c .with-block .ensures)
 
 returns : tie.Need-returns Inv-loop μ-loop
-returns c = gather-all (c .before .loop .inv .1) (omega arith)
+returns c = let all : c .before .loop .b ≡ c .before .before .before .before .before .args .g .b = omega arith in rw all at (c .before .loop .inv .1)
 
 pub scan-chip-spec : {M : Type 1} → statement M
 scan-chip-spec =
@@ -47,9 +44,9 @@ scan-chip-spec =
     (tie.spec
     Inv-loop
     μ-loop
+    no-block-requires
     loop-holds
-    scan-block-requires
-    add-named
+    with-block-requires
     add-b
     loop-less
     loop-again

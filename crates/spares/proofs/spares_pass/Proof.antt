@@ -1,6 +1,6 @@
 -- The loop's invariant: what it has found of the chips below c. After it the numbers of names, the shapes and the collection
 -- under way are the three parts of the verdict.
-use Prim.Native.Nat.{_+_, _-_, _≤_}
+use Prim.Native.Nat.{_+_, _-_, _≤_, _<_}
 use native.Mathlib.Omega.{arith}
 use mathlib.Core.Path.{_≡_, _∙_}
 use mathlib.Core.Logic.{⊎-elim}
@@ -22,12 +22,12 @@ use Rattle.spares.proofs.spares_pass.Statement.{statement}
 use Rattle.spares.proofs.spares_pass.Tie as tie
 
 abbrev Inv-loop : tie.InvT-loop
-Inv-loop chips records g co names lost n busy kept named₀ shaped₀ c₀ named shaped c =
+Inv-loop chips records g co names lost scans n busy kept named₀ shaped₀ c₀ named shaped c =
     let l = layoutOf g in
     (c ≤ g .n + 1) × Judged l (recordAt l records) (pageAt l chips) (collectionAt l records) lost c named shaped
 
 abbrev μ-loop : tie.MeasureT-loop
-μ-loop chips records g co names lost n busy kept named₀ shaped₀ c₀ named shaped c = g .n + 1 - c
+μ-loop chips records g co names lost scans n busy kept named₀ shaped₀ c₀ named shaped c = g .n + 1 - c
 
 -- the names on the chips that are not lost
 kept-is : (c : tie.Joined1 Inv-loop μ-loop)
@@ -80,8 +80,17 @@ sub-kept c =
 loop-holds : tie.Need-loop-holds Inv-loop μ-loop
 loop-holds c = (omega arith, judge-start)
 
-scan-chip-requires : tie.Need-scan-chip-requires Inv-loop μ-loop
-scan-chip-requires c κs = let h = c .before .before .before .before .before .before .before .before .pre in (h .0, h .1 .fit, c .before .loop-test .taken)
+-- a chip is one of at most seven
+seven : (c : tie.In-loop Inv-loop μ-loop) → c .before .loop .c < 7
+seven c =
+    let s = c .before .before .before .before .before .before .before in
+    omega (arith, within (layoutOf (s .args .g)) (s .pre .0 .limited) .members-high)
+
+mul-scan : tie.Need-mul-scan Inv-loop μ-loop
+mul-scan c = omega (arith, seven (c .before))
+
+array-copy-out-scan : tie.Need-array-copy-out-scan Inv-loop μ-loop
+array-copy-out-scan c = seven (c .before)
 
 add-named : tie.Need-add-named Inv-loop μ-loop
 add-named c =
@@ -90,7 +99,7 @@ add-named c =
     let a = s .args in
     let l = layoutOf (a .g) in
     let pages = start-low (a .g) (s .pre .0 .limited) (a .g .b) (omega arith) in
-    let more = judge-more (o .inv .1) (c .before .before .if2 .taken) (c .before .scan-chip .ensures) in
+    let more = judge-more (o .inv .1) (c .before .before .if2 .taken) (s .pre .4 .at (o .c) (c .before .before .before .loop-test .taken) (c .before .before .if2 .taken)) in
     let few = judge-few l (recordAt l (a .records .now)) (pageAt l (a .chips .now)) (a .lost) pages (o .c + 1) in
     omega (arith, more .names, within l (s .pre .0 .limited) .members-high)
 
@@ -108,7 +117,7 @@ loop-again c =
     let s = c .before .before .before .before .before .before .before .before in (
       omega arith,
       ⊎-elim
-          (λ w. rw (w .6, w .7, s .pre .2 .phase, s .pre .2 .chip) (judge-more (o .inv .1) (w .0 .taken) (w .1 .ensures)))
+          (λ w. rw (w .6, w .7, s .pre .2 .phase, s .pre .2 .chip) (judge-more (o .inv .1) (w .0 .taken) (s .pre .4 .at (o .c) (c .before .loop-test .taken) (w .0 .taken))))
           (λ w. rw (w .1, w .2) (judge-lost (o .inv .1) (w .0 .left)))
           (c .if2 .came),
     )
@@ -144,7 +153,8 @@ spares-pass-spec =
     names-on-requires
     sub-kept
     loop-holds
-    scan-chip-requires
+    mul-scan
+    array-copy-out-scan
     add-named
     add-c
     loop-less

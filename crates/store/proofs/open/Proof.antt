@@ -7,8 +7,8 @@ use Rattle.store.proofs.Results.{images-fit, checked, open-first, open-
 use Rattle.store.proofs.open.Statement.{statement}
 use Rattle.store.proofs.open.Tie as tie
 
-images-check-requires : tie.Need-images-check-requires
-images-check-requires c κs = search needs
+images-look-requires : tie.Need-images-look-requires
+images-look-requires c κs = search needs
 
 enum-known-check : tie.Need-enum-known-check
 enum-known-check c = search needs
@@ -20,7 +20,7 @@ same-length-2 : tie.Need-same-length-2
 same-length-2 c = search needs
 
 returns : tie.Need-returns
-returns c = open-first _ _ _ _ (c .before .check .given .0 .0) (sym (c .before .before .before .images-check .ensures) ∙ c .before .check .given .1)
+returns c = open-first _ _ _ _ (c .before .check .given .0 .0) (sym (c .before .before .before .images-look .ensures .0) ∙ c .before .check .given .1)
 
 enum-told : tie.Need-enum-told
 enum-told c = search needs
@@ -29,7 +29,7 @@ start-requires : tie.Need-start-requires
 start-requires c κs = search needs
 
 finish-requires : tie.Need-finish-requires
-finish-requires c κs = (checked _ _ _ (sym (c .before .before .before .before .before .before .images-check .ensures) ∙ c .before .before .before .before .enum-told .given .1) (c .before .before .before .if1 .taken), c .start .ensures .1)
+finish-requires c κs = (checked _ _ _ (sym (c .before .before .before .before .before .before .images-look .ensures .0) ∙ c .before .before .before .before .enum-told .given .1) (c .before .before .before .if1 .taken), c .start .ensures .1)
 
 answer-requires : tie.Need-answer-requires
 answer-requires c κs = search needs
@@ -43,7 +43,7 @@ same-length-4 c = search needs
 returns-2 : tie.Need-returns-2
 returns-2 c =
     let a = c .before .before .before .before .before .before .before .before .before .before .before .before .before .before .before .before .before .before .args in
-    let passed = sym (c .before .before .before .before .before .before .before .before .before .before .before .before .images-check .ensures) ∙ c .before .before .before .before .before .before .before .before .before .before .enum-told .given .1 in
+    let passed = sym (c .before .before .before .before .before .before .before .before .before .before .before .before .images-look .ensures .0) ∙ c .before .before .before .before .before .before .before .before .before .before .enum-told .given .1 in
     let h = images-fit (a .g) _ _ passed in
     let f = c .before .before .before .before .before .finish in
     rw (c .answer .ensures)
@@ -64,13 +64,13 @@ same-length-6 c = search needs
 returns-3 : tie.Need-returns-3
 returns-3 c =
     rw (c .answer2 .ensures)
-    (open-nothing _ _ _ _ (c .before .start2 .result) (sym (c .before .before .before .before .before .images-check .ensures) ∙ c .before .before .before .enum-told .given .1) (c .before .before .if1 .left) (c .before .start2 .ensures .0) (c .before .start2 .ensures .1))
+    (open-nothing _ _ _ _ (c .before .start2 .result) (sym (c .before .before .before .before .before .images-look .ensures .0) ∙ c .before .before .before .enum-told .given .1) (c .before .before .if1 .left) (c .before .start2 .ensures .0) (c .before .start2 .ensures .1))
 
 pub open-spec : {M : Type 1} → statement M
 open-spec =
     tie.close
     (tie.spec
-    images-check-requires
+    images-look-requires
     enum-known-check
     same-length
     same-length-2

@@ -13,7 +13,10 @@ member-chip-requires : tie.Need-member-chip-requires
 member-chip-requires c κs = search needs
 
 make-room-requires : tie.Need-make-room-requires
-make-room-requires c κs = search needs
+make-room-requires c κs =
+    let h = c .before .before .before .before .before .before .before .pre in
+    let on = c .before .before .member-chip .ensures in
+    (h .0, on .1, rw (on .0) (h .6), h .5)
 
 same-length : tie.Need-same-length
 same-length c = search needs

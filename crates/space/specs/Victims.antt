@@ -1,0 +1,32 @@
+-- The victim of a chip, from the scan of its blocks.
+use mathlib.Core.Path.{_≡_}
+use mathlib.Core.Bool.{cond}
+use mathlib.Core.List.{List}
+use Prim.Native.Nat.{ℕ, _≤_}
+use lib.Dec.{ltb}
+use lib.ListN.{length, getD}
+use Rattle.units.specs.declared.Found.{Found}
+use Rattle.units.specs.declared.Found.the-variants.{At, Nothing}
+use Rattle.layout.specs.declared.Geometry.{Geometry}
+use Rattle.layout.specs.Layout.{layoutOf}
+use Rattle.layout.specs.Page.{pageAt}
+use Rattle.layout.specs.Record.{recordAt}
+use Rattle.rules.specs.Place.{placeOf}
+use Rattle.rules.specs.Collect.{victimOf}
+use Rattle.spares.specs.declared.ChipScan.{ChipScan}
+use Rattle.spares.specs.Scans.{unscanned}
+
+-- the victim that a scan has found; K named pages stand for none
+unfoldable pub victimIn : ℕ → ChipScan → Found
+victimIn k s = cond (ltb (s .fewest) k) (At (s .victim)) Nothing
+
+-- v is the victim of chip c, where it has no place
+pub record VictimFor (g : Geometry) (chips records : List ℕ) (c : ℕ) (v : Found) : Type 0 where
+  pub is : placeOf (layoutOf g) (pageAt (layoutOf g) chips c) ≡ Nothing
+      → v ≡ victimOf (layoutOf g) c (pageAt (layoutOf g) chips c) (recordAt (layoutOf g) records)
+
+-- of every chip
+pub record Victims (g : Geometry) (chips records : List ℕ) (scans : List ChipScan) : Type 0 where
+  pub long : length scans ≡ 7
+  pub at : (c : ℕ) → c ≤ g .n
+      → victimIn (g .k) (getD scans c unscanned) ≡ victimOf (layoutOf g) c (pageAt (layoutOf g) chips c) (recordAt (layoutOf g) records)
