@@ -1,18 +1,18 @@
 -- The short look at a record: what its first eight numbers and the two words behind them tell.
-use Prim.Native.Nat.{ℕ, _+_, _*_, _/_, _%_, _≤_, _<_}
+use Prim.Native.Nat.{ℕ, _+_, _-_, _*_, _/_, _%_, _≤_, _<_}
 use native.Mathlib.Nat.{add-assoc}
 use native.Mathlib.Omega.{arith}
 use mathlib.Core.Path.{_≡_, ap, _∙_}
 use mathlib.Core.Logic.{_≢_}
-use mathlib.Core.Bool.{Bool, true, false, not, cond, _||_}
+use mathlib.Core.Bool.{Bool, true, false, not, cond, _&&_, _||_, and-true, and-false, or-false}
 use mathlib.Core.List.{List, [], _∷_}
 use lib.ListN.{length, getD}
 use lib.Dec.{ltb, leb, eqb}
-use borrow.Author.Tests.{lt-ltb, le-ltb, eq-eqb, ne-eqb, eqb-true, ltb-true, leb-true}
+use borrow.Author.Tests.{lt-ltb, le-ltb, le-leb, eq-eqb, ne-eqb, eqb-true, ltb-true, leb-true}
 use Rattle.units.specs.Look.{allBelow, countBelow}
-use Rattle.units.proofs.Looks.{by-order, by-same, all-at}
-use Rattle.units.proofs.Counts.{count-fail, count-cong, count-positive}
-use Rattle.units.proofs.Tallies.{same-tests}
+use Rattle.units.proofs.Looks.{by-order, by-same, all-at, all-true}
+use Rattle.units.proofs.Counts.{count-fail, count-cong, count-zero, count-all, count-positive}
+use Rattle.units.proofs.Tallies.{same-tests, count-from}
 use Rattle.units.proofs.Tests.{chain, chain-all, under, unless-equal}
 use Rattle.slices.proofs.Lists.{number-two}
 use Rattle.layout.specs.declared.Geometry.{Geometry}
@@ -22,7 +22,7 @@ use Rattle.layout.specs.Record.{recordAt}
 use Rattle.codec.specs.Fit.{RecordsFit}
 use Rattle.codec.specs.Views.{sixAt}
 use Rattle.codec.proofs.Encodings.{six-is, six-number, recordIn, record-in}
-use Rattle.checks.specs.Plain.{Ranges, WordAt, Plain, Glanced, numberAt}
+use Rattle.checks.specs.Plain.{Ranges, WordAt, Plain, Glanced, numberAt, numberIn, isWritten, writtenIn}
 use Rattle.checks.proofs.Sizes.{bounded}
 use Rattle.checks.proofs.Plains.{Bare, bare-plain}
 use Rattle.checks.proofs.Totals.{given}
@@ -55,19 +55,40 @@ parity-low p pages t d = ltb-true p pages (unless-equal p 65535 (ltb p pages) t 
 no-parity : (p names : ℕ) → not (eqb p 65535) || eqb names 0 ≡ true → p ≡ 65535 → names ≡ 0
 no-parity p names t q = eqb-true names 0 (under (eqb p 65535) (eqb names 0) t (eq-eqb p 65535 q))
 
+-- a number that is written is within its range, and a page exactly if a member's
+written : {n pages : ℕ} {tops : List ℕ} → Ranges n pages tops → 0 < pages → pages ≤ 65535 → (m x : ℕ) → m < 8
+    → isWritten (getD tops m 0) x ≡ true
+    → (leb (next x) (getD tops m 0) ≡ true) × (not (eqb (next x) 0) ≡ ltb m n)
+written {n} {pages} r some most m x h t = by-order m n
+    (λ b.
+    let top = rw (lt-ltb m n b) at (r .is m h) in
+    let low = ltb-true x pages (rw (top, ne-eqb pages 0 (omega arith), and-false, or-false) at t) in
+    (rw top (le-leb (next x) pages (omega arith)), rw (lt-ltb m n b, ne-eqb (next x) 0 (omega arith))))
+    (λ b.
+    let top = rw (le-ltb m n b) at (r .is m h) in
+    let same = eqb-true x 65535 (rw (top, le-ltb x 0 (omega arith), and-true) at t) in
+    (rw (top, same), rw (same, le-ltb m n b)))
+
 -- ---- the numbers of a record
 
--- number i of the record at offset a
-abbrev numberIn : List ℕ → ℕ → ℕ → ℕ
-numberIn xs a i = numberAt xs (a + 2 * i)
-
--- it is within its range
+-- number i of the record at offset a is within its range
 abbrev pub lowIn : List ℕ → List ℕ → ℕ → ℕ → Bool
 lowIn tops xs a i = leb (next (numberIn xs a i)) (getD tops i 0)
 
 -- it is a page
 abbrev pub givenIn : List ℕ → ℕ → ℕ → Bool
 givenIn xs a i = not (eqb (next (numberIn xs a i)) 0)
+
+-- where all members are written, all eight are within their ranges, and as many are pages
+all-written : {n pages : ℕ} {tops : List ℕ} → Ranges n pages tops → 0 < pages → pages ≤ 65535 → n ≤ 8 → (xs : List ℕ) (a : ℕ)
+    → allBelow 8 (writtenIn tops xs a) ≡ true → (allBelow 8 (lowIn tops xs a) ≡ true) × (countBelow 8 (givenIn xs a) ≡ n)
+all-written {n} {pages} {tops} r some most few xs a e =
+    let each : (i : ℕ) → i < 8 → (lowIn tops xs a i ≡ true) × (givenIn xs a i ≡ ltb i n) =
+    λ i h. written r some most i (numberIn xs a i) h (all-at 8 (writtenIn tops xs a) e i h) in
+    let members = count-all n (givenIn xs a) (λ i h. rw (each i (omega arith) .1, lt-ltb i n h)) in
+    let others = count-zero (8 - n) (λ i. givenIn xs a (n + i)) (λ i h. rw (each (n + i) (omega arith) .1, le-ltb (n + i) n (omega arith))) in
+    let eight : n + (8 - n) ≡ 8 = omega arith in
+    (all-true 8 (lowIn tops xs a) (λ i h. each i h .0), omega (arith, rw eight at (count-from n (8 - n) (givenIn xs a))))
 
 -- ---- what the look tells of it
 
@@ -180,6 +201,19 @@ module _ {g : Geometry} {xs tops : List ℕ} {j olds last : ℕ} (fit : RecordsF
       (no-parity p names (h .1 .1 .1 .1 .0)) in
       let parity : p ≡ numberAt xs (j * 32 + 24) = omega arith in
       rw (← record-in g xs j stripe, counts k, parity) (bare-plain b)
+
+  -- so it is where all members are written and the parity page is there
+  pub full : eqb olds 18446744073709551615 && eqb (last / 65536) 65280 && ltb (last % 65536) (g .b * g .k)
+      && allBelow 8 (writtenIn tops xs (j * 32)) ≡ true
+      → Plain (layoutOf g) (recordAt (layoutOf g) xs j) (g .n + 1)
+  full e =
+      let p = last % 65536 in
+      let h = chain-all (eqb olds 18446744073709551615) (eqb (last / 65536) 65280 ∷ ltb p (g .b * g .k) ∷ allBelow 8 (writtenIn tops xs (j * 32)) ∷ []) e in
+      let below = ltb-true p (g .b * g .k) (h .1 .1 .0) in
+      let limit = bounded g (fit .limited) in
+      let (lows, count) = all-written ranges (omega arith) (limit .pages) (omega arith) xs (j * 32) (h .1 .1 .1 .0) in
+      let there = ne-eqb p 65535 (omega arith) in
+      rw (count, there) at (passes (rw (lows, h .0, h .1 .0, there, h .1 .1 .0)))
 
   -- what the look tells, where all is the count with the parity page
   pub glanced : {low : Bool} {count all : ℕ} → low ≡ allBelow 8 (lowIn tops xs (j * 32)) → count ≡ countBelow 8 (givenIn xs (j * 32))

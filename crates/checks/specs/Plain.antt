@@ -1,10 +1,10 @@
 -- The short look at a record with nothing in the partial parity.
 use Prim.Native.Nat.{ℕ, _+_, _*_, _≤_, _<_}
 use mathlib.Core.Path.{_≡_}
-use mathlib.Core.Bool.{true, cond}
+use mathlib.Core.Bool.{Bool, true, cond, _&&_, _||_}
 use mathlib.Core.List.{List}
 use lib.ListN.{length, getD}
-use lib.Dec.{ltb}
+use lib.Dec.{ltb, eqb}
 use Rattle.units.specs.Number.{number}
 use Rattle.units.specs.Units.{part}
 use Rattle.layout.specs.Layout.{Layout}
@@ -21,6 +21,18 @@ pub record Ranges (n pages : ℕ) (tops : List ℕ) : Type 0 where
 -- the number of two bytes at offset a
 abbrev pub numberAt : List ℕ → ℕ → ℕ
 numberAt xs a = number (part a 2 xs)
+
+-- number i of the record at offset a
+abbrev pub numberIn : List ℕ → ℕ → ℕ → ℕ
+numberIn xs a i = numberAt xs (a + 2 * i)
+
+-- x is one of the pages below top, or none where there are none
+abbrev pub isWritten : ℕ → ℕ → Bool
+isWritten top x = ltb x top || (eqb x 65535 && eqb top 0)
+
+-- so is number i of the record at offset a
+abbrev pub writtenIn : List ℕ → List ℕ → ℕ → ℕ → Bool
+writtenIn tops xs a i = isWritten (getD tops i 0) (numberIn xs a i)
 
 -- r is the four numbers from offset a on, as one; each has two bytes
 pub record WordAt (xs : List ℕ) (a r : ℕ) : Type 0 where

@@ -12,6 +12,7 @@ ghost use mathlib.Core.Path.{_≡_};
 ghost use mathlib.Core.Bool.{true};
 ghost use Prim.Native.Nat.{_+_, _*_, _≤_, _<_};
 ghost use lib.ListN.{length};
+ghost use Rattle.units.specs.Look.{allBelow};
 ghost use Rattle.layout.specs.Layout.{layoutOf, limits};
 ghost use Rattle.layout.specs.Record.{recordAt};
 ghost use Rattle.layout.specs.Collection.{collectionAt};
@@ -19,7 +20,7 @@ ghost use Rattle.layout.specs.Images.{lengths};
 ghost use Rattle.rules.specs.Sound.{memberSound, recordSound, collectionSound, recordsSound};
 ghost use Rattle.codec.specs.Fit.{RecordsFit};
 ghost use Rattle.codec.specs.Views.{recordFrom};
-ghost use Rattle.checks.specs.Plain.{Ranges, WordAt, Glanced};
+ghost use Rattle.checks.specs.Plain.{Ranges, WordAt, writtenIn, Glanced};
 ghost use Rattle.names.specs.Stamps.{recordNames, namesIn};
 
 // Whether the geometry is within the limits. No product is formed before its factors are known to be small.
@@ -107,6 +108,9 @@ fn record_passes(g: Geometry, e: StripeRecord) -> bool
         & (e.rest == 0)
 }
 
+// None, as a number of two bytes.
+const NO_PAGE: u16 = 65535;
+
 // Four numbers that are none.
 const NO_OLDS: usize = 18446744073709551615;
 
@@ -149,6 +153,23 @@ fn word_at(s: &[u8], a: usize) -> usize
         + 281474976710656 * number_at(s, a + 6)
 }
 
+// Whether all members are written, and nothing else among the eight numbers from offset a on: each is one of its pages, or none where
+// it has no pages.
+fn all_written(records: &[u8], a: usize, tops: &[u16; 8]) -> bool
+    requires { ⌜ a + 16 ≤ length (now records) ⌝ }
+    ensures { λ r. ⌜ r ≡ allBelow 8 (writtenIn (now (tops .entry)) (now (records .entry)) a) ⌝ }
+{
+    let mut written = true;
+    let mut i = 0;
+    while i < 8 {
+        let x = number_at(records, a + 2 * i) as u16;
+        let top = tops[i];
+        written = written & ((x < top) | ((x == NO_PAGE) & (top == 0)));
+        i += 1;
+    }
+    written
+}
+
 // Most records have nothing in the partial parity. A short look may tell that a record is such a one and sound; where it does
 // not, nothing is said of it.
 fn glance_at(records: &[u8], g: Geometry, j: usize, tops: &[u16; 8]) -> Glance
@@ -160,6 +181,13 @@ fn glance_at(records: &[u8], g: Geometry, j: usize, tops: &[u16; 8]) -> Glance
     let last = word_at(records, a + 24);
     let olds = word_at(records, a + 16);
     let parity = last % 65536;
+    // most records are full, and there is nothing to count
+    let rest = (olds == NO_OLDS) & (last / 65536 == NO_PARTIAL) & (parity < pages);
+    let plain = rest & all_written(records, a, tops);
+    if plain {
+        let names = g.n as usize + 1;
+        return Glance { plain, names };
+    }
     let bare = parity == NONE;
     let mut low = true;
     let mut names: usize = 0;
