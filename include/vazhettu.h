@@ -1,21 +1,33 @@
 /*
- * The weight store, all six calls: format, open, read, write, commit and collect.
+ * The weight store: flash chips run as RAID-5 with delayed partial parity. Six calls: format, open, read, write, commit, collect.
  *
- * A store is three buffers that the caller lends to every call, as document 01 lays them out:
- *   chips    (n + 1) * b * k pages of w + 8 bytes
- *   records  s + 1 records of 32 bytes
- *   slots    m + 1 pages of w bytes
+ * A store of n data pages to a stripe has n + 1 chips, and is three buffers that the caller lends to every call:
+ *   chips    the chips end to end, each of b blocks of k pages; a page is w data bytes and 8 spare bytes
+ *   records  s + 1 records of 32 bytes: the page map, and a collection under way
+ *   slots    m + 1 partial parities of w bytes
+ * Records and slots are the holding memory: they must outlast a loss of power. The calls see and change these bytes alone. What
+ * the bytes mean is document 01's; a caller needs it only to read them without the store.
  *
- * Every number and every byte may be anything: a call that cannot be made is refused, with counts of zero and nothing
- * changed. What a caller must keep: each pointer has as many bytes behind it as its length says and is not null, also where the
- * length is 0, and no two buffers of one call overlap.
+ * The store has n * s logical pages. Page i is in stripe i / n.
  *
- * A call that stores carries an allowance: it makes no more stores than that, and answers VAZHETTU_CUT exactly where more
- * were due. What it has stored then stands whole. A cut, like a real loss of power between two stores, can leave a collection
- * under way: vazhettu_open finishes it, and the call that was cut may be made again.
+ * What a caller must keep:
+ *   - Each pointer has as many bytes behind it as the length beside it says, and is not null, also where the length is 0.
+ *   - No two buffers of one call overlap.
+ *   - Nobody else writes the buffers of a call, or reads those that it may change, until it returns.
+ * All else is checked: every number and every byte may be anything, and a call that cannot be made is refused.
  *
- * From a finished format on, where every call has its geometry and nobody else writes the buffers: whatever was cut, and with any
- * one chip lost if later calls name it, a page reads as its last write that was done, or as zeros if there is none.
+ * What the store promises, from a format that was done until the next one, as long as every call has its geometry and nobody
+ * else writes the buffers: whatever was cut or refused, every page reads as its last write that was done, or as zeros if there is
+ * none. This stands when any one chip is lost and its bytes become anything, if each call from then on names that chip. What is
+ * said below of how pages read is said of such a store.
+ *
+ * What a call needs: no alignment of any buffer, no memory but the buffers and less than 16 KB of stack (measured), and of the C
+ * library memcpy, memmove and memset. It does no input or output, keeps nothing from one call to the next, and always ends. So
+ * calls on different stores may be made at once, from threads or interrupts, and so may reads of one store, as long as no other
+ * call has its buffers. Only a format may be given memory that nobody has written yet; the slots may stay so after it. Every
+ * other call looks at each record, and at the spare bytes of each page but the lost chip's: its time grows with the store.
+ *
+ * The numbers in the buffers are little-endian. The library is built for x86-64.
  */
 #ifndef VAZHETTU_H
 #define VAZHETTU_H
@@ -36,80 +48,122 @@ struct vazhettu_geometry {
     uint64_t m; /* partial parities, 1 to 254; s + m + 1 at most (b - 1) * k */
 };
 
+/*
+ * The lengths of the buffers, for numbers within these limits, and of one chip; they are constants where the numbers are. Chip c
+ * begins at chips + c * VAZHETTU_CHIP_LEN(w, k, b).
+ */
+#define VAZHETTU_CHIP_LEN(w, k, b) ((size_t)(b) * (size_t)(k) * ((size_t)(w) + 8))
+#define VAZHETTU_CHIPS_LEN(n, w, k, b) (((size_t)(n) + 1) * VAZHETTU_CHIP_LEN(w, k, b))
+#define VAZHETTU_RECORDS_LEN(s) (((size_t)(s) + 1) * 32)
+#define VAZHETTU_SLOTS_LEN(w, m) (((size_t)(m) + 1) * (size_t)(w))
+
+/*
+ * What a call answers. A call that is refused has counts of zero and has changed nothing, its buffer or data included. A call
+ * that is cut has the counts of the stores that it made.
+ */
 struct vazhettu_report {
     uint64_t status;   /* VAZHETTU_DONE, VAZHETTU_CUT, or the refusal */
-    uint64_t reads;    /* pages read */
+    uint64_t reads;    /* pages read, of data or parity; not slots, nor looks at spare bytes and records */
     uint64_t programs; /* pages programmed */
     uint64_t erases;   /* blocks erased */
-    uint64_t stores;   /* stores made, of whatever kind */
+    uint64_t stores;   /* stores made: programs, erases, slots and records */
 };
 
 /*
  * A call is checked from 1 to 10, and the first that applies is its answer. 1 and 2 are for every call, 3 to 5 for all but
- * format, 6 and 9 for write, commit and collect, 7 for these and read, 8 for read and write, and 10 for commit (the stripe has
- * no slot) and collect (no full block has an unnamed page).
+ * format, 6 and 9 for write, commit and collect, 7 for these and read, 8 for read and write, 10 for commit and collect. A format
+ * is only ever refused 1 or 2, an open 1 to 5; a read is never cut.
  */
 enum {
     VAZHETTU_DONE = 0,
+    /* A number of the geometry is outside its limits. */
     VAZHETTU_BAD_GEOMETRY = 1,
+    /* Chips, records or slots have another length than the geometry asks for. */
     VAZHETTU_BAD_BUFFERS = 2,
+    /* The lost chip is neither VAZHETTU_NO_CHIP nor 0 to n. */
     VAZHETTU_BAD_LOST_CHIP = 3,
+    /* The records are not sound: never formatted, of another geometry, or damaged. No call but a format takes them. */
     VAZHETTU_BAD_RECORDS = 4,
+    /* The chips do not fit the records. If it is the fault of one chip, calls that name it as lost are not refused for it. */
     VAZHETTU_BAD_SPARES = 5,
+    /* A collection was cut: vazhettu_open finishes it, and then the call can be made. Reads need not wait. */
     VAZHETTU_COLLECTION_UNDER_WAY = 6,
+    /* There is no such page, stripe or chip. */
     VAZHETTU_BAD_REQUEST = 7,
+    /* The buffer or the data is not of w bytes. */
     VAZHETTU_BAD_DATA = 8,
+    /*
+     * A chip is named as lost, and the call needs them all. Reads do not: to go on with a new chip, read every page, format, and
+     * write them again.
+     */
     VAZHETTU_CHIP_LOST = 9,
+    /* There is nothing to do: the stripe has no partial parity, or no full block of the chip has a page to give up. */
     VAZHETTU_NO_WORK = 10,
+    /*
+     * More stores were due than the allowance. Those that were made stand whole, and no other byte has changed. After a format
+     * that was cut, format again; after any other call, call vazhettu_open, and make the call again if it is still wanted.
+     */
     VAZHETTU_CUT = 255
 };
 
-/* The lost chip of a call that names none. */
+/* The lost chip of a call that names none. From its loss on a chip is to be named in every call. */
 #define VAZHETTU_NO_CHIP 255
 
 /*
- * Makes the buffers an empty store: erases every block, stores every record empty. The slots stay as they are. A format that was
- * cut is to be made again.
+ * The allowance is the number of stores that a call may make, what the capacitor still holds: the call makes no more, and is cut
+ * exactly where more are due. A format makes (n + 1) * b + s + 1 stores; an open makes at most k + 2, a collect 2 * k + 4, a
+ * commit 2 * k + 6, a write 4 * k + 13. A loss of power between two stores leaves what a cut there leaves. With this one no call is cut.
+ */
+#define VAZHETTU_NO_LIMIT UINT64_MAX
+
+/*
+ * Makes the buffers an empty store, in which every page reads as zeros: erases every block, stores every record empty. What was
+ * in the buffers does not matter, and the slots stay as they are. After a cut the other calls may refuse the buffers, and nothing
+ * is promised of what they read: format again.
  */
 struct vazhettu_report vazhettu_format(struct vazhettu_geometry g, uint8_t *chips, size_t chips_len, uint8_t *records,
                                        size_t records_len, const uint8_t *slots, size_t slots_len, uint64_t allowance);
 
 /*
- * Finishes a collection that a power cut left under way. With a chip named as lost it makes no store.
+ * Finishes a collection that a cut or a loss of power left under way, or takes it back where it had only copied; without one it
+ * makes no store. To be called whenever power comes back. Every page reads as before. With a chip named as lost it makes no
+ * store either, and the collection stays: reads work all the same.
  */
 struct vazhettu_report vazhettu_open(struct vazhettu_geometry g, uint8_t *chips, size_t chips_len, uint8_t *records,
                                      size_t records_len, const uint8_t *slots, size_t slots_len, uint64_t lost,
                                      uint64_t allowance);
 
 /*
- * Fills the buffer, of w bytes, with logical page `page`, below n * s: zeros where it was never written, and rebuilt from the
- * other chips where its own is named as lost.
+ * Fills the buffer, of w bytes, with logical page `page`, below n * s: zeros where it was never written, and rebuilt from slots
+ * and other chips where its own is named as lost. Makes no store, and works while a collection is under way.
  */
 struct vazhettu_report vazhettu_read(struct vazhettu_geometry g, const uint8_t *chips, size_t chips_len,
                                      const uint8_t *records, size_t records_len, const uint8_t *slots, size_t slots_len,
                                      uint64_t lost, uint64_t page, uint8_t *buffer, size_t buffer_len);
 
 /*
- * Writes the w bytes to logical page `page`, below n * s. Once done, the page reads as these bytes; cut or refused, it reads as
- * before. It programs the page, stores the new partial parity into a free slot, and last the record. If the page's stripe has no
- * slot and m others have, the one of least cost is committed first, and a chip without a place for a page is collected first: no
- * write is refused for want of space.
+ * Writes the w bytes to logical page `page`, below n * s. Once done, the page reads as these bytes and every other page as
+ * before; cut or refused, every page reads as before. It programs the page, stores the new partial parity into a free slot, and
+ * last the record. If the page's stripe has no slot and m others have, the one of them that is cheapest is committed first, and
+ * a chip without a place for a page is collected first: no write is refused for want of space.
  */
 struct vazhettu_report vazhettu_write(struct vazhettu_geometry g, uint8_t *chips, size_t chips_len, uint8_t *records,
                                       size_t records_len, uint8_t *slots, size_t slots_len, uint64_t lost, uint64_t page,
                                       const uint8_t *bytes, size_t bytes_len, uint64_t allowance);
 
 /*
- * Commits stripe `stripe`, below s: programs its parity page, made of the partial parity and either the pages not in it or the old
- * parity and old pages, and stores its record with no olds, no bitmap and no slot. Every page reads as before.
+ * Commits stripe `stripe`, below s, which must have a partial parity: programs its parity page, and stores its record without
+ * slot. A chip without a place for the page is collected first. Every page reads as before. Nobody has to call it: a write
+ * commits when it must. Refused VAZHETTU_NO_WORK where no page of the stripe was written since its last commit.
  */
 struct vazhettu_report vazhettu_commit(struct vazhettu_geometry g, uint8_t *chips, size_t chips_len, uint8_t *records,
                                        size_t records_len, const uint8_t *slots, size_t slots_len, uint64_t lost,
                                        uint64_t stripe, uint64_t allowance);
 
 /*
- * Collects chip `chip`, at most n: of the full blocks with an unnamed page, the one with fewest pages named by records is the
- * victim; these are copied to the lowest clean block, and the victim is erased. Every page reads as before.
+ * Collects chip `chip`, at most n: of the full blocks with a page that no record names, the one with fewest named pages is the
+ * victim; these are copied to the lowest clean block, and the victim is erased. Every page reads as before. Nobody has to
+ * call it: a write or a commit collects when it must. Refused VAZHETTU_NO_WORK where there is no such block.
  */
 struct vazhettu_report vazhettu_collect(struct vazhettu_geometry g, uint8_t *chips, size_t chips_len, uint8_t *records,
                                         size_t records_len, const uint8_t *slots, size_t slots_len, uint64_t lost, uint64_t chip,

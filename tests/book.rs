@@ -1,4 +1,5 @@
-//! Tests of the reference by itself: the price book, the cut rule, the table, the bags on the pan.
+//! Tests of the reference by itself: the price book, the cut rule, the calls store by store, the table. The worked
+//! cases of document 01 are in compare/paper.rs, where the reference goes through them too.
 //!
 //!     rustc -O --edition 2021 --test book.rs && ./book
 
@@ -227,28 +228,6 @@ fn price_book_over_two_lists() {
     }
 }
 
-#[test]
-fn bags_on_the_pan() {
-    let shape = geometry(4, 16, 4, 4, 6, 2).shape().unwrap();
-    assert_eq!([0, 1, 4, 5].map(|stripe| shape.parity_chip(stripe)), [4, 3, 0, 4]);
-    assert_eq!([6, 7, 16].map(|page| shape.member_chip(page / 4, page % 4)), [2, 4, 1]);
-    assert_eq!([1, 2, 3, 4].map(|p| shape.cost(p)), [2, 2, 1, 0]);
-    let five = Shape { n: 5, ..shape };
-    assert_eq!([1, 2, 3, 4, 5].map(|p| five.cost(p)), [2, 3, 2, 1, 0]);
-    assert!(geometry(4, 16, 85, 771, 9, 2).shape().is_some());
-    assert!(geometry(4, 16, 128, 512, 9, 2).shape().is_none());
-    assert!(geometry(4, 16, 4, 4, 9, 2).shape().is_some());
-    assert!(geometry(4, 16, 4, 4, 10, 2).shape().is_none());
-    let g = geometry(4, 16, 4, 4, 6, 2);
-    for (allowance, status, first) in [(2, CUT, 0), (3, DONE, 0xa5)] {
-        let mut images = formatted(g);
-        assert_eq!(write(g, &mut images, NO_CHIP, 1, &[0xa5; 16], allowance).status, status);
-        let mut buffer = [9; 16];
-        read(g, &images, NO_CHIP, 1, &mut buffer);
-        assert_eq!(buffer, [first; 16]);
-    }
-}
-
 /// N = 4, W = 16, K = 4, B = 4, S = 6, M = 2, formatted, with calls that must be done.
 struct Store {
     g: Geometry,
@@ -390,22 +369,6 @@ fn collection_store_by_store() {
         assert_eq!(images == store.images, phase == 2);
         assert_eq!(images == full, phase < 2);
     }
-}
-
-#[test]
-fn bench_example() {
-    let g = geometry(4, 16, 4, 4, 6, 2);
-    let mut images = formatted(g);
-    let counts = |status: Status| [status.status, status.reads, status.programs, status.erases];
-    assert_eq!(counts(write(g, &mut images, NO_CHIP, 1, &[0xa5; 16], 65_535)), [DONE, 0, 1, 0]);
-    assert_eq!(counts(write(g, &mut images, NO_CHIP, 2, &[0x0f; 16], 65_535)), [DONE, 0, 1, 0]);
-    assert_eq!(counts(write(g, &mut images, NO_CHIP, 1, &[0x11; 16], 65_535)), [DONE, 1, 1, 0]);
-    let mut buffer = [9; 16];
-    assert_eq!(counts(read(g, &images, 1, 1, &mut buffer)), [DONE, 1, 0, 0]);
-    assert_eq!(buffer, [0x11; 16]);
-    assert_eq!(counts(read(g, &images, 1, 0, &mut buffer)), [DONE, 0, 0, 0]);
-    assert_eq!(buffer, [0; 16]);
-    assert_eq!(write(g, &mut images, 1, 3, &[0x22; 16], 65_535).status, 9);
 }
 
 /// The table's order, from the top: each line breaks one thing less.

@@ -117,7 +117,13 @@ impl From<Status> for reference::Status {
     }
 }
 
-const GUARD: usize = 64;
+/// Bytes that the library may be lent.
+pub trait Buffer {
+    fn pointer(&mut self) -> *mut u8;
+    fn length(&self) -> usize;
+}
+
+pub const GUARD: usize = 64;
 
 /// A copy lent to the library, at any alignment, between guard bytes.
 pub struct Lent {
@@ -136,10 +142,6 @@ impl Lent {
         Lent { bytes, start, len: content.len() }
     }
 
-    fn pointer(&mut self) -> *mut u8 {
-        self.content_mut().as_mut_ptr()
-    }
-
     pub fn content(&self) -> &[u8] {
         &self.bytes[self.start..self.start + self.len]
     }
@@ -155,15 +157,26 @@ impl Lent {
     }
 }
 
-fn guard(i: usize) -> u8 {
+impl Buffer for Lent {
+    fn pointer(&mut self) -> *mut u8 {
+        self.content_mut().as_mut_ptr()
+    }
+
+    fn length(&self) -> usize {
+        self.len
+    }
+}
+
+/// The guard byte at an offset.
+pub fn guard(i: usize) -> u8 {
     (i as u8).wrapping_mul(89) ^ 0x3c
 }
 
 /// The three images, lent.
-pub struct LentImages {
-    pub chips: Lent,
-    pub records: Lent,
-    pub slots: Lent,
+pub struct LentImages<L = Lent> {
+    pub chips: L,
+    pub records: L,
+    pub slots: L,
 }
 
 impl LentImages {
@@ -176,36 +189,45 @@ impl LentImages {
     }
 }
 
-pub fn format(g: reference::Geometry, lent: &mut LentImages, allowance: u64) -> reference::Status {
+pub fn format<L: Buffer>(
+    g: reference::Geometry,
+    lent: &mut LentImages<L>,
+    allowance: u64,
+) -> reference::Status {
     let LentImages { chips, records, slots } = lent;
-    // SAFETY: each pointer is to as many bytes as the length beside it, of three vectors.
+    // SAFETY: each pointer is to as many bytes as the length beside it, of three buffers.
     let status = unsafe {
         vazhettu_format(
             g.into(),
             chips.pointer(),
-            chips.len,
+            chips.length(),
             records.pointer(),
-            records.len,
+            records.length(),
             slots.pointer(),
-            slots.len,
+            slots.length(),
             allowance,
         )
     };
     status.into()
 }
 
-pub fn open(g: reference::Geometry, lent: &mut LentImages, lost: u64, allowance: u64) -> reference::Status {
+pub fn open<L: Buffer>(
+    g: reference::Geometry,
+    lent: &mut LentImages<L>,
+    lost: u64,
+    allowance: u64,
+) -> reference::Status {
     let LentImages { chips, records, slots } = lent;
-    // SAFETY: each pointer is to as many bytes as the length beside it, of three vectors.
+    // SAFETY: each pointer is to as many bytes as the length beside it, of three buffers.
     let status = unsafe {
         vazhettu_open(
             g.into(),
             chips.pointer(),
-            chips.len,
+            chips.length(),
             records.pointer(),
-            records.len,
+            records.length(),
             slots.pointer(),
-            slots.len,
+            slots.length(),
             lost,
             allowance,
         )
@@ -213,80 +235,80 @@ pub fn open(g: reference::Geometry, lent: &mut LentImages, lost: u64, allowance:
     status.into()
 }
 
-pub fn read(
+pub fn read<L: Buffer>(
     g: reference::Geometry,
-    lent: &mut LentImages,
+    lent: &mut LentImages<L>,
     lost: u64,
     page: u64,
-    buffer: &mut Lent,
+    buffer: &mut L,
 ) -> reference::Status {
     let LentImages { chips, records, slots } = lent;
-    // SAFETY: each pointer is to as many bytes as the length beside it, of four vectors.
+    // SAFETY: each pointer is to as many bytes as the length beside it, of four buffers.
     let status = unsafe {
         vazhettu_read(
             g.into(),
             chips.pointer(),
-            chips.len,
+            chips.length(),
             records.pointer(),
-            records.len,
+            records.length(),
             slots.pointer(),
-            slots.len,
+            slots.length(),
             lost,
             page,
             buffer.pointer(),
-            buffer.len,
+            buffer.length(),
         )
     };
     status.into()
 }
 
-pub fn write(
+pub fn write<L: Buffer>(
     g: reference::Geometry,
-    lent: &mut LentImages,
+    lent: &mut LentImages<L>,
     lost: u64,
     page: u64,
-    data: &mut Lent,
+    data: &mut L,
     allowance: u64,
 ) -> reference::Status {
     let LentImages { chips, records, slots } = lent;
-    // SAFETY: each pointer is to as many bytes as the length beside it, of four vectors.
+    // SAFETY: each pointer is to as many bytes as the length beside it, of four buffers.
     let status = unsafe {
         vazhettu_write(
             g.into(),
             chips.pointer(),
-            chips.len,
+            chips.length(),
             records.pointer(),
-            records.len,
+            records.length(),
             slots.pointer(),
-            slots.len,
+            slots.length(),
             lost,
             page,
             data.pointer(),
-            data.len,
+            data.length(),
             allowance,
         )
     };
     status.into()
 }
 
-pub fn commit(
+pub fn commit<L: Buffer>(
     g: reference::Geometry,
-    lent: &mut LentImages,
+    lent: &mut LentImages<L>,
     lost: u64,
     stripe: u64,
     allowance: u64,
 ) -> reference::Status {
     let LentImages { chips, records, slots } = lent;
-    // SAFETY: each pointer is to as many bytes as the length beside it, of three vectors.
+    // SAFETY: each pointer is to as many bytes as the length beside it, of three buffers.
     let status = unsafe {
         vazhettu_commit(
             g.into(),
             chips.pointer(),
-            chips.len,
+            chips.length(),
             records.pointer(),
-            records.len,
+            records.length(),
             slots.pointer(),
-            slots.len,
+            slots.length(),
             lost,
             stripe,
             allowance,
@@ -295,24 +317,24 @@ pub fn commit(
     status.into()
 }
 
-pub fn collect(
+pub fn collect<L: Buffer>(
     g: reference::Geometry,
-    lent: &mut LentImages,
+    lent: &mut LentImages<L>,
     lost: u64,
     chip: u64,
     allowance: u64,
 ) -> reference::Status {
     let LentImages { chips, records, slots } = lent;
-    // SAFETY: each pointer is to as many bytes as the length beside it, of three vectors.
+    // SAFETY: each pointer is to as many bytes as the length beside it, of three buffers.
     let status = unsafe {
         vazhettu_collect(
             g.into(),
             chips.pointer(),
-            chips.len,
+            chips.length(),
             records.pointer(),
-            records.len,
+            records.length(),
             slots.pointer(),
-            slots.len,
+            slots.length(),
             lost,
             chip,
             allowance,

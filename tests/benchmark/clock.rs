@@ -1,0 +1,133 @@
+//! Times of three things, taken turn by turn.
+
+use std::hint::black_box;
+use std::time::Instant;
+
+/// What the processor's caches hold when a call begins.
+#[derive(Clone, Copy, PartialEq, Eq)]
+pub enum Caches {
+    /// Nothing of the images, or at their far end: more than the largest cache has been read since.
+    Swept,
+    /// What the same call has left there, made again and again until it gets no faster.
+    Warm,
+}
+
+/// More than the last cache of the processors at hand.
+const SWEEP_BYTES: usize = 512 << 20;
+
+/// A turn with warm caches is over after so many runs in a row that were no faster by this share, since it
+/// takes some runs after another one's turn until the caches hold what they can; and after so many at most.
+const IDLE_RUNS: usize = 6;
+const FASTER: f64 = 0.99;
+const MOST_RUNS: usize = 40;
+
+/// A row that is not settled gets up to so many times the rounds asked for.
+const MOST_TIMES: usize = 4;
+
+/// Settled when the best times of two turns are as near.
+const NEAR: f64 = 1.05;
+
+pub trait Race {
+    fn run(&mut self, turn: usize);
+    /// Leaves what the run of that turn changed as it was.
+    fn take_back(&mut self, turn: usize);
+}
+
+pub const TURNS: usize = 3;
+
+/// The best times of two turns of one thing, in microseconds.
+#[derive(Clone, Copy)]
+pub struct Best {
+    pub first: f64,
+    second: f64,
+}
+
+impl Best {
+    fn new() -> Best {
+        Best { first: f64::MAX, second: f64::MAX }
+    }
+
+    fn add(&mut self, time: f64) {
+        if time < self.first {
+            self.second = self.first;
+            self.first = time;
+        } else {
+            self.second = self.second.min(time);
+        }
+    }
+
+    pub fn settled(&self) -> bool {
+        self.second <= self.first * NEAR
+    }
+}
+
+/// The rounds that one row has had.
+#[derive(Clone, Copy)]
+pub struct Taken {
+    rounds: usize,
+    pub best: [Best; TURNS],
+}
+
+impl Taken {
+    pub fn new() -> Taken {
+        Taken { rounds: 0, best: [Best::new(); TURNS] }
+    }
+}
+
+pub struct Clock {
+    rounds: usize,
+    sweep: Vec<u8>,
+}
+
+impl Clock {
+    pub fn new(rounds: usize, sweeps: bool) -> Clock {
+        Clock { rounds, sweep: vec![1; if sweeps { SWEEP_BYTES } else { 0 }] }
+    }
+
+    /// Whether more rounds are asked for, or may yet settle what is not settled.
+    pub fn due(&self, taken: &Taken) -> bool {
+        let settled = taken.best.iter().all(Best::settled);
+        taken.rounds < self.rounds || (taken.rounds < MOST_TIMES * self.rounds && !settled)
+    }
+
+    /// Each has its turn, another one first each time.
+    pub fn round(&self, caches: Caches, race: &mut impl Race, taken: &mut Taken) {
+        if caches == Caches::Swept {
+            self.sweep();
+        }
+        for turn in (0..TURNS).map(|i| (taken.rounds + i) % TURNS) {
+            taken.best[turn].add(match caches {
+                Caches::Swept => run(race, turn),
+                Caches::Warm => run_warm(race, turn),
+            });
+        }
+        taken.rounds += 1;
+    }
+
+    fn sweep(&self) {
+        let lines = black_box(&self.sweep).iter().step_by(64);
+        black_box(lines.fold(0u8, |sum, byte| sum.wrapping_add(*byte)));
+    }
+}
+
+fn run_warm(race: &mut impl Race, turn: usize) -> f64 {
+    let mut best = f64::MAX;
+    let mut idle = 0;
+    for _ in 0..MOST_RUNS {
+        let time = run(race, turn);
+        idle = if time < best * FASTER { 0 } else { idle + 1 };
+        best = best.min(time);
+        if idle == IDLE_RUNS {
+            break;
+        }
+    }
+    best
+}
+
+fn run(race: &mut impl Race, turn: usize) -> f64 {
+    let start = Instant::now();
+    race.run(turn);
+    let time = start.elapsed().as_secs_f64() * 1e6;
+    race.take_back(turn);
+    time
+}

@@ -1,0 +1,146 @@
+//! Sound images, nearly full: what the calls of the benchmark find.
+
+use crate::random::Random;
+use crate::reference::*;
+
+/// Whether the pages of a chip stand in the order of their stripes, as in a store just filled, or
+/// anywhere, as in one long in use.
+#[derive(Clone, Copy, PartialEq, Eq)]
+pub enum Order {
+    Sequence,
+    Shuffled,
+}
+
+/// The members that a stripe with a slot has in its partial parity.
+const IN_PARTIAL: [usize; 2] = [0, 2];
+
+/// One stripe in so many has nothing written, but for those with a slot.
+const EMPTY_ONE_IN: usize = 16;
+
+/// All M partial parities are in use, spread over the stripes. On each chip one block is clean and
+/// the others are full. Each stripe takes a page on each chip, one with a slot takes two: so named and
+/// unnamed pages are everywhere alike, and whichever block a collection takes, most of it is copied.
+pub fn build(random: &mut Random, shape: Shape, order: Order) -> Images {
+    let mut builder = Builder::new(random, shape, order);
+    let apart = shape.s / (shape.m + 1);
+    for stripe in 0..shape.s {
+        let slot = stripe / apart;
+        if stripe % apart == 0 && slot < shape.m {
+            builder.write_stripe(stripe, Some(slot as u8));
+        } else if stripe % EMPTY_ONE_IN == EMPTY_ONE_IN - 1 {
+            builder.leave_empty(stripe);
+        } else {
+            builder.write_stripe(stripe, None);
+        }
+    }
+    builder.finish()
+}
+
+struct Builder {
+    shape: Shape,
+    images: Images,
+    /// For each chip, the pages still to be used, from the last on; the last block stays clean.
+    pools: Vec<Vec<usize>>,
+}
+
+impl Builder {
+    fn new(random: &mut Random, shape: Shape, order: Order) -> Builder {
+        let [chips, records, slots] = shape.lengths();
+        let images = Images { chips: random.bytes(chips), records: vec![0; records], slots: vec![0; slots] };
+        let mut pool = || {
+            let mut pool: Vec<usize> = (0..shape.pages() - shape.k).rev().collect();
+            if order == Order::Shuffled {
+                random.shuffle(&mut pool);
+            }
+            pool
+        };
+        let pools = (0..=shape.n).map(|_| pool()).collect();
+        Builder { shape, images, pools }
+    }
+
+    /// Takes the next page of a chip and stamps it with what the stripe has there.
+    fn take(&mut self, chip: usize, stripe: usize) -> u16 {
+        let shape = self.shape;
+        let page = self.pools[chip].pop().expect("S + M + 1 pages to a chip");
+        let (kind, member) = match (0..shape.n).find(|&m| shape.member_chip(stripe, m) == chip) {
+            Some(member) => (DATA, member as u8),
+            None => (PARITY, 0),
+        };
+        let spare = Spare { kind, member, stripe: stripe as u16, copied: NONE };
+        let at = shape.spare_at(chip, page);
+        self.images.chips[at..at + SPARE_BYTES].copy_from_slice(&spare.to_bytes());
+        page as u16
+    }
+
+    /// All members written and parity stored. With a slot each has been written twice: of the members in
+    /// the partial parity the earlier page is the old one, of the others nobody names it.
+    fn write_stripe(&mut self, stripe: usize, slot: Option<u8>) {
+        let shape = self.shape;
+        let mut record = Record::from_bytes(&EMPTY_RECORD);
+        let mut parity = vec![0; shape.w];
+        let mut partial = vec![0; shape.w];
+        for m in 0..shape.n {
+            let chip = shape.member_chip(stripe, m);
+            let earlier = slot.map(|_| self.take(chip, stripe));
+            let current = self.take(chip, stripe);
+            record.current[m] = current;
+            match earlier {
+                Some(old) if IN_PARTIAL.contains(&m) => {
+                    record.old[m] = old;
+                    record.bitmap |= 1 << m;
+                    self.add(&mut partial, chip, current);
+                    self.add(&mut parity, chip, old);
+                }
+                _ => self.add(&mut parity, chip, current),
+            }
+        }
+        if let Some(slot) = slot {
+            self.take(shape.parity_chip(stripe), stripe);
+            record.slot = slot;
+            self.images.slots[slot as usize * shape.w..][..shape.w].copy_from_slice(&partial);
+        }
+        record.parity = self.store_parity(stripe, &parity);
+        self.store_record(stripe, record.to_bytes());
+    }
+
+    fn store_parity(&mut self, stripe: usize, parity: &[u8]) -> u16 {
+        let chip = self.shape.parity_chip(stripe);
+        let page = self.take(chip, stripe);
+        let at = self.shape.page_at(chip, page as usize);
+        self.images.chips[at..at + parity.len()].copy_from_slice(parity);
+        page
+    }
+
+    /// Nobody names the pages, as after writes that were cut.
+    fn leave_empty(&mut self, stripe: usize) {
+        for chip in 0..=self.shape.n {
+            self.take(chip, stripe);
+        }
+        self.store_record(stripe, EMPTY_RECORD);
+    }
+
+    fn add(&self, sum: &mut [u8], chip: usize, page: u16) {
+        let data = self.images.view(self.shape).data(chip, page as usize);
+        for (byte, other) in sum.iter_mut().zip(data) {
+            *byte ^= other;
+        }
+    }
+
+    fn store_record(&mut self, index: usize, bytes: [u8; RECORD_BYTES]) {
+        self.images.records[index * RECORD_BYTES..][..RECORD_BYTES].copy_from_slice(&bytes);
+    }
+
+    /// The pages left over are used too; the last block of each chip is clean.
+    fn finish(mut self) -> Images {
+        let shape = self.shape;
+        for chip in 0..=shape.n {
+            while !self.pools[chip].is_empty() {
+                self.take(chip, shape.s - 1);
+            }
+            let from = shape.page_at(chip, shape.pages() - shape.k);
+            let to = shape.page_at(chip, shape.pages());
+            self.images.chips[from..to].fill(255);
+        }
+        self.images
+    }
+}

@@ -1,0 +1,165 @@
+//! A store beside its price book, which knows no chips.
+
+use crate::calls::{Call, Comparison};
+use crate::generator::ALL;
+use crate::images::{fill_chip, FILLINGS};
+use crate::random::Random;
+use crate::reference::*;
+
+/// How many pages of a large book are held against the store at once.
+const FEW: usize = 6;
+/// A book of so many pages is held whole, at so many pages to a chip.
+const WHOLE: usize = 150;
+const SMALL: usize = 200;
+
+pub struct Store {
+    pub g: Geometry,
+    pub shape: Shape,
+    pub images: Images,
+    /// For each logical page the data of the last write that was done.
+    pub book: Vec<Vec<u8>>,
+}
+
+impl Store {
+    /// A formatted store; what was in the images before is random.
+    pub fn new(to: &mut Comparison, random: &mut Random, g: Geometry) -> Store {
+        let shape = g.shape().expect("within the limits");
+        let [chips, records, slots] = shape.lengths().map(|length| random.bytes(length));
+        let book = vec![vec![0; shape.w]; shape.n * shape.s];
+        let mut store = Store { g, shape, images: Images { chips, records, slots }, book };
+        if store.is_small() && random.one_in(8) {
+            to.every_allowance(random, g, &store.images, &Call::Format { allowance: ALL }, |_, _, _, _| {});
+        }
+        store.format(to, random);
+        store
+    }
+
+    /// "A format answered done is finished: every page is zeros."
+    pub fn format(&mut self, to: &mut Comparison, random: &mut Random) {
+        let status = to.call(random, self.g, &mut self.images, &Call::Format { allowance: ALL });
+        if status.status != DONE {
+            to.fail(self.g, &format!("harness: a format is {status:?}"));
+        }
+        self.book.iter_mut().for_each(|page| page.fill(0));
+    }
+
+    /// The call on the store's own images; the book is fed its arguments and its answer.
+    pub fn call(&mut self, to: &mut Comparison, random: &mut Random, call: &Call) -> Status {
+        let status = to.call(random, self.g, &mut self.images, call);
+        if let (DONE, Call::Write { page, data, .. }) = (status.status, call) {
+            self.book[*page as usize].clone_from(data);
+        }
+        status
+    }
+
+    pub fn view(&self) -> View<'_> {
+        self.images.view(self.shape)
+    }
+
+    pub fn phase(&self) -> u8 {
+        self.view().collection().phase
+    }
+
+    fn is_small(&self) -> bool {
+        self.book.len() <= WHOLE && self.shape.pages() < SMALL
+    }
+
+    /// Every page of a small book, a few of a large one.
+    pub fn some_pages(&self, random: &mut Random) -> Vec<usize> {
+        if self.is_small() {
+            return (0..self.book.len()).collect();
+        }
+        (0..FEW).map(|_| random.below(self.book.len())).collect()
+    }
+
+    /// Holds the pages that the images give against the book, with a chip lost or none.
+    pub fn hold(
+        &self,
+        to: &mut Comparison,
+        random: &mut Random,
+        images: &mut Images,
+        lost: u64,
+        pages: &[usize],
+    ) {
+        for &page in pages {
+            let found = to.page(random, self.g, images, lost, page as u64);
+            if found != self.book[page] {
+                to.fail(
+                    self.g,
+                    &format!("page {page} read with lost chip {lost} is not its last done write"),
+                );
+            }
+        }
+    }
+
+    /// One chip becomes other bytes, or keeps its own, and is named as lost.
+    fn hold_without(
+        &self,
+        to: &mut Comparison,
+        random: &mut Random,
+        images: &Images,
+        chip: usize,
+        filling: &str,
+        pages: &[usize],
+    ) {
+        let mut images = images.clone();
+        fill_chip(random, self.shape, &mut images, chip, filling);
+        self.hold(to, random, &mut images, chip as u64, pages);
+        to.coverage.hit(&format!("book held with a chip {filling}"));
+    }
+
+    /// A few pages of the book, with one chip lost or none, after a cut call or in between.
+    pub fn hold_some(&self, to: &mut Comparison, random: &mut Random, images: &Images, cut: Option<&str>) {
+        let pages: Vec<usize> = (0..FEW).map(|_| random.below(self.book.len())).collect();
+        match random.below(self.shape.n + 2) {
+            chip if chip <= self.shape.n => {
+                let filling = random.pick(&FILLINGS);
+                self.hold_without(to, random, images, chip, filling, &pages);
+            }
+            _ => self.hold(to, random, &mut images.clone(), NO_CHIP, &pages),
+        }
+        let phase = images.view(self.shape).collection().phase;
+        to.coverage.hit(&format!("book held in phase {phase}"));
+        if let Some(call) = cut {
+            to.coverage.hit(&format!("book held after a cut {call}"));
+        }
+    }
+
+    /// The book with no chip lost, and with each chip lost in turn, in each filling: every page, or of a large book
+    /// a few.
+    pub fn hold_all(&self, to: &mut Comparison, random: &mut Random, images: &Images) {
+        let pages = self.some_pages(random);
+        self.hold(to, random, &mut images.clone(), NO_CHIP, &pages);
+        to.coverage.hit("book held with no chip lost");
+        for chip in 0..=self.shape.n {
+            for filling in FILLINGS {
+                self.hold_without(to, random, images, chip, filling, &pages);
+            }
+        }
+        let phase = images.view(self.shape).collection().phase;
+        let whole = format!("book held whole: every page, every chip, every filling, in phase {phase}");
+        to.coverage.hit(if self.is_small() { &whole } else { "book held in part, of a large store" });
+    }
+
+    /// A call at every allowance. After a cut the book is as before; after an open, or several that are cut, it
+    /// still is.
+    pub fn every_allowance(&self, to: &mut Comparison, random: &mut Random, call: &Call) {
+        to.every_allowance(random, self.g, &self.images, call, |to, random, mut left, status| {
+            if status.status != CUT || !random.one_in(3) {
+                return;
+            }
+            if self.is_small() && random.one_in(20) {
+                self.hold_all(to, random, &left);
+            }
+            self.hold_some(to, random, &left, Some(call.name()));
+            while left.view(self.shape).collection().phase != 0 {
+                let allowance = random.below(4) as u64;
+                let status = to.call(random, self.g, &mut left, &Call::Open { lost: NO_CHIP, allowance });
+                if status.status == CUT {
+                    self.hold_some(to, random, &left, Some("open"));
+                }
+            }
+            self.hold_some(to, random, &left, None);
+        });
+    }
+}

@@ -1,0 +1,420 @@
+//! The worked cases of document 01, with its own numbers and bytes, through the library and through the reference.
+
+use crate::calls::{Call, Comparison};
+use crate::generator::ALL;
+use crate::random::Random;
+use crate::reference::{Geometry, Images, CUT, DONE, NO_CHIP};
+
+type Case = fn(&mut Comparison);
+
+/// "Bags on the pan" and "Thumbs on the scale".
+pub const CASES: [(&str, Case); 17] = [
+    ("paper: the seven lines of the bench program", seven_lines),
+    ("paper: every byte after the seven lines", every_byte),
+    ("paper: every byte after a format", after_format),
+    ("paper: parity chips at N = 4", parity_chips),
+    ("paper: chips of pages at N = 4", page_chips),
+    ("paper: reads of a commit at N = 4", |to| reads_of_commits(to, &FOUR)),
+    ("paper: reads of a commit at N = 5", |to| reads_of_commits(to, &FIVE)),
+    ("paper: stripe of least cost at N = 4", |to| least_cost(to, &FOUR)),
+    ("paper: stripe of least cost at N = 5", |to| least_cost(to, &FIVE)),
+    ("paper: 771 x 85 accepted", |to| accepted(to, geometry(2, 85, 771, 1, 1), 3 * 771)),
+    ("paper: 512 x 128 refused 1", |to| refused(to, geometry(2, 128, 512, 1, 1))),
+    ("paper: S = 9 accepted, 10 refused 1", nine_and_ten),
+    ("paper: a first write takes 3 stores", first_write),
+    ("paper: a page outside the bitmap from old pages", outside_the_bitmap),
+    ("paper: the old number does not move again", second_write),
+    ("paper: no victim erased that a record names", collection_store_by_store),
+    ("paper: no slot reused that a record names", slot_of_a_cut_write),
+];
+
+/// N and the cost for p = 1, 2, ..
+const FOUR: (u64, &[u64]) = (4, &[2, 2, 1, 0]);
+const FIVE: (u64, &[u64]) = (5, &[2, 3, 2, 1, 0]);
+
+pub fn run(to: &mut Comparison) {
+    for (point, case) in CASES {
+        to.about = point.to_string();
+        case(to);
+        to.coverage.hit(point);
+    }
+}
+
+/// W is 16 in all of them.
+fn geometry(n: u64, k: u64, b: u64, s: u64, m: u64) -> Geometry {
+    Geometry { n, w: 16, k, b, s, m }
+}
+
+fn bench_geometry() -> Geometry {
+    geometry(4, 4, 4, 6, 2)
+}
+
+/// A store in both implementations; what it answers and holds must be what the paper says.
+struct Pan<'a> {
+    to: &'a mut Comparison,
+    random: Random,
+    g: Geometry,
+    images: Images,
+    lost: u64,
+}
+
+impl Pan<'_> {
+    /// Images of 0x5a, as nobody has formatted them.
+    fn unformatted(to: &mut Comparison, g: Geometry) -> Pan<'_> {
+        let pages = (g.n + 1) * g.b * g.k;
+        let [chips, records, slots] =
+            [pages * 24, (g.s + 1) * 32, (g.m + 1) * 16].map(|length| vec![0x5a; length as usize]);
+        Pan { to, random: Random::new(1), g, images: Images { chips, records, slots }, lost: NO_CHIP }
+    }
+
+    fn new(to: &mut Comparison, g: Geometry) -> Pan<'_> {
+        let mut pan = Pan::unformatted(to, g);
+        let status = pan.call(Call::Format { allowance: ALL }).0;
+        pan.holds(status == DONE, "a format is done");
+        pan
+    }
+
+    fn holds(&self, condition: bool, what: &str) {
+        if !condition {
+            self.to.fail(self.g, &format!("the paper says otherwise: {what}"));
+        }
+    }
+
+    /// Status, reads, programs, erases, stores.
+    fn call(&mut self, call: Call) -> (u64, [u64; 4]) {
+        let s = self.to.call(&mut self.random, self.g, &mut self.images, &call);
+        (s.status, [s.reads, s.programs, s.erases, s.stores])
+    }
+
+    fn write_allowed(&mut self, page: u64, byte: u8, allowance: u64) -> (u64, [u64; 4]) {
+        self.call(Call::Write { lost: self.lost, page, data: vec![byte; 16], allowance })
+    }
+
+    fn write(&mut self, page: u64, byte: u8) -> [u64; 4] {
+        let (status, counts) = self.write_allowed(page, byte, 65_535);
+        self.holds(status == DONE, &format!("the write of page {page} is done"));
+        counts
+    }
+
+    fn commit(&mut self, stripe: u64) -> [u64; 4] {
+        let (status, counts) = self.call(Call::Commit { lost: self.lost, stripe, allowance: 65_535 });
+        self.holds(status == DONE, &format!("the commit of stripe {stripe} is done"));
+        counts
+    }
+
+    /// The page as it reads, with the pages read for it.
+    fn read(&mut self, page: u64) -> (Vec<u8>, u64) {
+        let reads = self.call(Call::Read { lost: self.lost, page, buffer: vec![0x77; 16] }).1[0];
+        (self.to.page(&mut self.random, self.g, &mut self.images, self.lost, page), reads)
+    }
+
+    /// The page reads as the byte, also where a chip is lost and its bytes are gone.
+    fn reads_as(&mut self, lost: u64, page: u64, byte: u8, reads: u64) {
+        let own = self.images.chips.clone();
+        if lost != NO_CHIP {
+            let len = (self.g.b * self.g.k * 24) as usize;
+            self.images.chips[lost as usize * len..][..len].fill(0xc3);
+        }
+        self.lost = lost;
+        let found = self.read(page);
+        self.holds(found == (vec![byte; 16], reads), &format!("page {page} is {byte} after {reads} reads"));
+        self.lost = NO_CHIP;
+        self.images.chips = own;
+    }
+
+    /// The 24 bytes of a page of a chip.
+    fn page_at(&self, chip: u64, page: u64) -> &[u8] {
+        &self.images.chips[((chip * self.g.b * self.g.k + page) * 24) as usize..][..24]
+    }
+
+    fn record(&self, index: u64) -> &[u8] {
+        &self.images.records[index as usize * 32..][..32]
+    }
+
+    fn slot(&self, slot: u64) -> &[u8] {
+        &self.images.slots[slot as usize * 16..][..16]
+    }
+
+    /// The pages of a kind, each with its chip.
+    fn pages_of(&self, kind: u8) -> Vec<(u64, u64)> {
+        let per_chip = self.g.b * self.g.k;
+        let pages = (0..(self.g.n + 1) * per_chip).map(|i| (i / per_chip, i % per_chip));
+        pages.filter(|&(chip, page)| self.page_at(chip, page)[16] == kind).collect()
+    }
+}
+
+/// A page of one byte, with its spare.
+fn page(byte: u8, kind: u8, member: u8, stripe: u8, copied: [u8; 2]) -> Vec<u8> {
+    [&[byte; 16][..], &[kind, member, stripe, 0, copied[0], copied[1], 255, 255]].concat()
+}
+
+const NONE: [u8; 2] = [255, 255];
+
+/// "twenty-six bytes of 255, a 0, a 255 and four of 0".
+fn empty_record() -> Vec<u8> {
+    [&[255; 26][..], &[0, 255, 0, 0, 0, 0]].concat()
+}
+
+// ---------------------------------------------------------------------------------------------
+// The bench program
+// ---------------------------------------------------------------------------------------------
+
+const LINES: [(&str, &str); 7] = [
+    ("w 1 a5", "w 1 0 1 0"),
+    ("w 2 0f", "w 2 0 1 0"),
+    ("w 1 11", "w 1 1 1 0"),
+    ("x 1", "x 1"),
+    ("r 1", "r 1 11 1 0 0"),
+    ("r 0", "r 0 00 0 0 0"),
+    ("w 3 22", "w 3 refused 9"),
+];
+
+/// What the bench program prints for a line.
+fn obey(pan: &mut Pan, line: &str) -> String {
+    let words: Vec<&str> = line.split(' ').collect();
+    let number: u64 = words[1].parse().expect("a number");
+    let echo = format!("{} {}", words[0], words[1]);
+    let counted = |(status, [reads, programs, erases, _]): (u64, [u64; 4])| match status {
+        DONE => format!("{reads} {programs} {erases}"),
+        number => format!("refused {number}"),
+    };
+    match words[0] {
+        "x" => {
+            pan.lost = number;
+            echo
+        }
+        "w" => {
+            let byte = u8::from_str_radix(words[2], 16).expect("a byte");
+            format!("{echo} {}", counted(pan.write_allowed(number, byte, 65_535)))
+        }
+        _ => {
+            let (bytes, reads) = pan.read(number);
+            format!("{echo} {:02x} {}", bytes[0], counted((DONE, [reads, 0, 0, 0])))
+        }
+    }
+}
+
+fn seven_lines(to: &mut Comparison) {
+    let mut pan = Pan::new(to, bench_geometry());
+    for (line, printed) in LINES {
+        let found = obey(&mut pan, line);
+        pan.holds(found == printed, &format!("{line} prints {printed}, not {found}"));
+    }
+}
+
+/// Pages 1 and 2 are members 1 and 2 of stripe 0, on chips 1 and 2.
+fn every_byte(to: &mut Comparison) {
+    let mut pan = Pan::new(to, bench_geometry());
+    for (line, _) in LINES {
+        obey(&mut pan, line);
+    }
+    let mut chips = vec![255; 5 * 16 * 24];
+    let pages = [
+        (1, 0, page(0xa5, 68, 1, 0, NONE)),
+        (2, 0, page(0x0f, 68, 2, 0, NONE)),
+        (1, 1, page(0x11, 68, 1, 0, NONE)),
+    ];
+    for (chip, number, bytes) in pages {
+        chips[(chip * 16 + number) * 24..][..24].copy_from_slice(&bytes);
+    }
+    pan.holds(pan.images.chips == chips, "three pages are programmed");
+    let mut record = empty_record();
+    record[2..6].copy_from_slice(&[1, 0, 0, 0]);
+    record[26..28].copy_from_slice(&[0b110, 0]);
+    let records = [&record[..], &empty_record().repeat(5), &[0; 32]].concat();
+    pan.holds(pan.images.records == records, "record 0 has pages 1 and 0, the bitmap 6 and slot 0");
+    let slots = [[0xa5 ^ 0x0f ^ 0xa5 ^ 0x11; 16], [0xa5 ^ 0x0f; 16], [0x5a; 16]].concat();
+    pan.holds(pan.images.slots == slots, "the partial parities are in slots 0 and 1");
+}
+
+fn after_format(to: &mut Comparison) {
+    let mut pan = Pan::unformatted(to, bench_geometry());
+    let answer = pan.call(Call::Format { allowance: 27 });
+    pan.holds(answer == (DONE, [0, 0, 20, 27]), "20 erases and 7 records");
+    pan.holds(pan.images.chips == vec![255; 5 * 16 * 24], "every block is erased");
+    let records = [&empty_record().repeat(6)[..], &[0; 32]].concat();
+    pan.holds(pan.images.records == records, "six empty records and phase 0");
+    pan.holds(pan.images.slots == [0x5a; 3 * 16], "slots stay");
+}
+
+// ---------------------------------------------------------------------------------------------
+// Bags on the pan
+// ---------------------------------------------------------------------------------------------
+
+fn parity_chips(to: &mut Comparison) {
+    for (stripe, chip) in [(0, 4), (1, 3), (4, 0), (5, 4)] {
+        let mut pan = Pan::new(to, bench_geometry());
+        pan.write(4 * stripe, 1);
+        pan.commit(stripe);
+        pan.holds(pan.pages_of(80) == [(chip, 0)], &format!("parity of stripe {stripe} on chip {chip}"));
+    }
+}
+
+fn page_chips(to: &mut Comparison) {
+    for (number, chip) in [(6, 2), (7, 4), (16, 1)] {
+        let mut pan = Pan::new(to, bench_geometry());
+        pan.write(number, 1);
+        pan.holds(pan.pages_of(68) == [(chip, 0)], &format!("page {number} on chip {chip}"));
+    }
+}
+
+/// All pages of a stripe written and committed, and then so many again.
+fn stripe_with(pan: &mut Pan, stripe: u64, set_bits: u64) {
+    let n = pan.g.n;
+    for m in 0..n {
+        pan.write(stripe * n + m, 1 << m);
+    }
+    pan.commit(stripe);
+    for m in 0..set_bits {
+        pan.write(stripe * n + m, 0x80 | 1 << m);
+    }
+}
+
+fn reads_of_commits(to: &mut Comparison, (n, costs): &(u64, &[u64])) {
+    for (p, &cost) in (1..).zip(*costs) {
+        let mut pan = Pan::new(to, geometry(*n, 4, 4, 6, 2));
+        stripe_with(&mut pan, 0, p);
+        let counts = pan.commit(0);
+        pan.holds(counts == [cost, 1, 0, 2], &format!("a commit of p = {p} reads {cost} pages"));
+    }
+}
+
+/// "commit the stripe of least cost, lowest number on ties": of stripes 0 and 1, with p and q bits set.
+fn least_cost(to: &mut Comparison, (n, costs): &(u64, &[u64])) {
+    for (p, &cost) in (1..).zip(*costs) {
+        for (q, &other) in (1..).zip(*costs) {
+            let mut pan = Pan::new(to, geometry(*n, 4, 4, 6, 2));
+            stripe_with(&mut pan, 0, p);
+            stripe_with(&mut pan, 1, q);
+            let counts = pan.write(2 * n, 1);
+            let first = cost <= other;
+            let slots = [0, 1].map(|stripe| pan.record(stripe)[27] == 255);
+            pan.holds(slots == [first, !first], &format!("of p = {p} and {q} it commits the cheaper"));
+            pan.holds(counts == [cost.min(other), 2, 0, 5], &format!("and reads {} pages", cost.min(other)));
+        }
+    }
+}
+
+fn accepted(to: &mut Comparison, g: Geometry, erases: u64) {
+    let mut pan = Pan::unformatted(to, g);
+    let answer = pan.call(Call::Format { allowance: ALL });
+    pan.holds(answer == (DONE, [0, 0, erases, erases + g.s + 1]), "a format is done");
+    let opened = pan.call(Call::Open { lost: NO_CHIP, allowance: 0 });
+    pan.holds(opened == (DONE, [0; 4]), "an open is done");
+}
+
+fn refused(to: &mut Comparison, g: Geometry) {
+    let (lost, allowance) = (NO_CHIP, ALL);
+    let calls = [
+        Call::Format { allowance },
+        Call::Open { lost, allowance },
+        Call::Read { lost, page: 0, buffer: vec![0; 16] },
+        Call::Write { lost, page: 0, data: vec![0; 16], allowance },
+        Call::Commit { lost, stripe: 0, allowance },
+        Call::Collect { lost, chip: 0, allowance },
+    ];
+    let mut pan = Pan::unformatted(to, g);
+    for call in calls {
+        let answer = pan.call(call);
+        pan.holds(answer == (1, [0; 4]), "every call is refused 1");
+    }
+}
+
+fn nine_and_ten(to: &mut Comparison) {
+    accepted(to, geometry(4, 4, 4, 9, 2), 20);
+    refused(to, geometry(4, 4, 4, 10, 2));
+}
+
+fn first_write(to: &mut Comparison) {
+    for g in
+        [bench_geometry(), geometry(2, 2, 3, 2, 1), geometry(6, 128, 2, 1, 1), geometry(5, 2, 1_024, 9, 254)]
+    {
+        for number in [0, 1, g.n * g.s - 1] {
+            for allowance in 0..3 {
+                let mut pan = Pan::new(to, g);
+                let (status, counts) = pan.write_allowed(number, 0xa5, allowance);
+                let programs = allowance.min(1);
+                pan.holds((status, counts) == (CUT, [0, programs, 0, allowance]), "cut below 3 stores");
+                pan.reads_as(NO_CHIP, number, 0, 0);
+            }
+            let mut pan = Pan::new(to, g);
+            let answer = pan.write_allowed(number, 0xa5, 3);
+            pan.holds(answer == (DONE, [0, 1, 0, 3]), "done with 3 stores");
+            pan.reads_as(NO_CHIP, number, 0xa5, 1);
+        }
+    }
+}
+
+// ---------------------------------------------------------------------------------------------
+// Thumbs on the scale
+// ---------------------------------------------------------------------------------------------
+
+/// Pages 0 to 3 written and committed, then page 0 again: page 1 is parity, the old page 0 and pages 2 and 3.
+fn outside_the_bitmap(to: &mut Comparison) {
+    let mut pan = Pan::new(to, bench_geometry());
+    for (number, byte) in [(0, 0x21), (1, 0x42), (2, 0x84), (3, 0x48)] {
+        pan.write(number, byte);
+    }
+    pan.commit(0);
+    pan.holds(pan.page_at(4, 0) == page(0xaf, 80, 0, 0, NONE), "parity of four pages");
+    pan.write(0, 0xe7);
+    pan.reads_as(1, 1, 0x42, 4);
+    pan.reads_as(0, 0, 0xe7, 0);
+    pan.reads_as(NO_CHIP, 0, 0xe7, 1);
+}
+
+/// A second write under one partial parity leaves the old number, and takes the current page out of the partial.
+fn second_write(to: &mut Comparison) {
+    let mut pan = Pan::new(to, bench_geometry());
+    pan.write(0, 0x21);
+    pan.write(1, 0x42);
+    pan.commit(0);
+    let first = pan.write(0, 0x84);
+    let second = pan.write(0, 0x18);
+    pan.holds((first, second) == ([0, 1, 0, 3], [1, 1, 0, 3]), "the second reads the current page");
+    let record = pan.record(0);
+    pan.holds(record[0..2] == [2, 0] && record[12..14] == [0, 0], "page 2 is current, page 0 old");
+    let slot = record[27] as u64;
+    pan.holds(pan.slot(slot) == [0x18; 16], "the partial parity is the last data");
+    pan.reads_as(0, 0, 0x18, 0);
+    pan.reads_as(1, 1, 0x42, 2);
+}
+
+/// Block 0 of chip 0 is full, and its last page is logical page 0. Six stores: phase 1, the copy, phase 2, the record,
+/// the erase, phase 0.
+fn collection_store_by_store(to: &mut Comparison) {
+    for allowance in 0..=6 {
+        let mut pan = Pan::new(to, bench_geometry());
+        for byte in 1..=4 {
+            pan.write(0, byte);
+        }
+        let made = |store: u64| allowance >= store;
+        let (status, counts) = pan.call(Call::Collect { lost: NO_CHIP, chip: 0, allowance });
+        let copies = made(2) as u64;
+        pan.holds(status == if made(6) { DONE } else { CUT }, "six stores");
+        pan.holds(counts == [copies, copies, made(5) as u64, allowance], "as the stores are counted");
+        let phase = if made(6) { 0 } else { made(1) as u8 + made(3) as u8 };
+        let collection = [phase, 0, 0, 0, (phase > 0) as u8, 0];
+        pan.holds(pan.record(6) == [&collection[..], &[0; 26]].concat(), "phase, chip 0, blocks 0 and 1");
+        let copy = if made(2) { page(4, 68, 0, 0, [3, 0]) } else { vec![255; 24] };
+        pan.holds(pan.page_at(0, 4) == copy, "page 3 is copied to page 4");
+        let current = if made(4) { 4 } else { 3 };
+        pan.holds(pan.record(0)[0..2] == [current, 0], "then the record names the copy");
+        let original = if made(5) { vec![255; 24] } else { page(4, 68, 0, 0, NONE) };
+        pan.holds(pan.page_at(0, 3) == original, "and only then the victim is erased");
+        pan.reads_as(NO_CHIP, 0, 4, 1);
+        pan.reads_as(0, 0, 4, 0);
+    }
+}
+
+/// A write that is cut before its record has stored its partial parity elsewhere than the one in use.
+fn slot_of_a_cut_write(to: &mut Comparison) {
+    let mut pan = Pan::new(to, bench_geometry());
+    pan.write(0, 0x3c);
+    let answer = pan.write_allowed(0, 0x99, 2);
+    pan.holds(answer == (CUT, [1, 1, 0, 2]), "page and slot are stored");
+    pan.holds(pan.record(0)[27] == 0 && pan.slot(0) == [0x3c; 16], "slot 0 is still in use");
+    pan.holds(pan.slot(1) == [0x99; 16], "slot 1 has the new partial parity");
+    pan.reads_as(NO_CHIP, 0, 0x3c, 1);
+    pan.reads_as(0, 0, 0x3c, 0);
+}
