@@ -3,8 +3,8 @@
 use crate::random::Random;
 use crate::reference::*;
 
-/// Whether the pages of a chip stand in the order of their stripes, as in a store just filled, or
-/// anywhere, as in one long in use.
+/// Whether stripes of each kind come in turn and the pages of a chip stand in the order of their stripes, as
+/// in a store just filled, or all stand anywhere, as in one long in use.
 #[derive(Clone, Copy, PartialEq, Eq)]
 pub enum Order {
     Sequence,
@@ -17,23 +17,45 @@ const IN_PARTIAL: [usize; 2] = [0, 2];
 /// One stripe in so many has nothing written, but for those with a slot.
 const EMPTY_ONE_IN: usize = 16;
 
-/// All M partial parities are in use, spread over the stripes. On each chip one block is clean and
-/// the others are full. Each stripe takes a page on each chip, one with a slot takes two: so named and
-/// unnamed pages are everywhere alike, and whichever block a collection takes, most of it is copied.
+#[derive(Clone, Copy)]
+enum Kind {
+    Written,
+    Slotted(u8),
+    Empty,
+}
+
+/// All M partial parities are in use. On each chip one block is clean and the others are full. Each stripe
+/// takes a page on each chip, one with a slot takes two: so named and unnamed pages are everywhere alike, and
+/// whichever block a collection takes, most of it is copied.
 pub fn build(random: &mut Random, shape: Shape, order: Order) -> Images {
+    let kinds = kinds(random, shape, order);
     let mut builder = Builder::new(random, shape, order);
-    let apart = shape.s / (shape.m + 1);
-    for stripe in 0..shape.s {
-        let slot = stripe / apart;
-        if stripe % apart == 0 && slot < shape.m {
-            builder.write_stripe(stripe, Some(slot as u8));
-        } else if stripe % EMPTY_ONE_IN == EMPTY_ONE_IN - 1 {
-            builder.leave_empty(stripe);
-        } else {
-            builder.write_stripe(stripe, None);
+    for (stripe, kind) in kinds.into_iter().enumerate() {
+        match kind {
+            Kind::Written => builder.write_stripe(stripe, None),
+            Kind::Slotted(slot) => builder.write_stripe(stripe, Some(slot)),
+            Kind::Empty => builder.leave_empty(stripe),
         }
     }
     builder.finish()
+}
+
+fn kinds(random: &mut Random, shape: Shape, order: Order) -> Vec<Kind> {
+    let apart = shape.s / (shape.m + 1);
+    let kind = |stripe: usize| {
+        if stripe % apart == 0 && stripe / apart < shape.m {
+            Kind::Slotted((stripe / apart) as u8)
+        } else if stripe % EMPTY_ONE_IN == EMPTY_ONE_IN - 1 {
+            Kind::Empty
+        } else {
+            Kind::Written
+        }
+    };
+    let mut kinds: Vec<Kind> = (0..shape.s).map(kind).collect();
+    if order == Order::Shuffled {
+        random.shuffle(&mut kinds);
+    }
+    kinds
 }
 
 struct Builder {

@@ -73,14 +73,18 @@ struct Stripes {
 
 impl Stripes {
     fn of(view: View) -> Stripes {
-        let from_middle = |wanted: &dyn Fn(Record) -> bool| {
-            let mut stripes = view.shape.s / 2..view.shape.s;
-            stripes.find(|&stripe| wanted(view.record(stripe))).expect("stripes of each kind are everywhere")
+        let shape = view.shape;
+        let from_middle = |wanted: &dyn Fn(usize, Record) -> bool| {
+            let mut stripes = shape.s / 2..shape.s;
+            stripes.find(|&j| wanted(j, view.record(j))).expect("stripes of each kind are everywhere")
         };
+        // written on another chip than the parity of the stripe that is committed before it
+        let parity_chip = shape.parity_chip(view.cheapest_stripe().expect("a stripe with a slot"));
+        let apart = |stripe: usize| shape.member_chip(stripe, 0) != parity_chip;
         Stripes {
-            plain: from_middle(&|record| record.slot == NO_SLOT && record.parity != NONE),
-            slotted: from_middle(&|record| record.slot != NO_SLOT),
-            empty: from_middle(&|record| record.parity == NONE),
+            plain: from_middle(&|j, record| record.slot == NO_SLOT && record.parity != NONE && apart(j)),
+            slotted: from_middle(&|_, record| record.slot != NO_SLOT),
+            empty: from_middle(&|_, record| record.parity == NONE),
         }
     }
 }
