@@ -203,6 +203,7 @@ fn note_refusal(coverage: &mut Coverage, shape: Shape, images: &Images, call: &C
             coverage.hit_if(found > right, &format!("{name} with {image} too long"));
             coverage.hit_if(found + 1 == right, "images one byte too short");
             coverage.hit_if(found == right + 1, "images one byte too long");
+            coverage.hit_if(found == right + 65_536, "images 65,536 bytes too long");
         }
     }
     let later = later_by_call(shape, call).chain(later_by_images(shape, images, call, number));

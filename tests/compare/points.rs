@@ -203,7 +203,7 @@ pub const CUTS: [&str; 7] = [
     "commit of a write cut before the record",
 ];
 
-pub const MADE_IMAGES: [&str; 21] = [
+pub const MADE_IMAGES: [&str; 22] = [
     "images by calls in phase 0",
     "images by calls in phase 1",
     "images by calls in phase 2",
@@ -216,6 +216,7 @@ pub const MADE_IMAGES: [&str; 21] = [
     "images of more than 2^24 bytes",
     "images one byte too short",
     "images one byte too long",
+    "images 65,536 bytes too long",
     "images with K and B exchanged, refused",
     "images with K and B exchanged, not refused",
     "lost chip filled with random bytes",

@@ -176,7 +176,7 @@ pub fn other_length(random: &mut Random, shape: Shape, images: &mut Images) {
         1 => &mut images.records,
         _ => &mut images.slots,
     };
-    let unit = random.pick(&[1, 8, RECORD_BYTES, shape.w, shape.page_len(), shape.chip_len()]);
+    let unit = random.pick(&[1, 8, RECORD_BYTES, shape.w, shape.page_len(), shape.chip_len(), 256, 65_536]);
     match random.below(5) {
         0 => image.clear(),
         1 | 2 => image.truncate(image.len().saturating_sub(unit)),
