@@ -5,8 +5,8 @@
  *   chips    the chips end to end, each of b blocks of k pages; a page is w data bytes and 8 spare bytes
  *   records  s + 1 records of 32 bytes: the page map, and a collection under way
  *   slots    m + 1 partial parities of w bytes
- * Records and slots are the holding memory: they must outlast a loss of power. The calls see and change these bytes alone. What
- * the bytes mean is document 01's; a caller needs it only to read them without the store.
+ * Records and slots are the holding memory: they must outlast a loss of power. The calls see and change these bytes
+ * alone. What the bytes mean is in docs/FORMAT.md; a caller needs it only to read them without the store.
  *
  * The store has n * s logical pages. Page i is in stripe i / n.
  *
@@ -20,6 +20,12 @@
  * else writes the buffers: whatever was cut or refused, every page reads as its last write that was done, or as zeros if there is
  * none. This stands when any one chip is lost and its bytes become anything, if each call from then on names that chip. What is
  * said below of how pages read is said of such a store.
+ *
+ * What this says of a loss of power rests on the device. A call stores to plain memory: it promises the bytes of its
+ * buffers when it returns, and not the order in which compiled code, caches, write buffers or a driver of the flash bring
+ * them to the chips. So the device must see to one of these: power lasts until the call has returned and its stores
+ * are on the chips (the allowance is for that); or the stores reach the chips in their order, each of them whole, and power
+ * may go between any two. In both the holding memory keeps its bytes. docs/INTEGRATION.md says how.
  *
  * What a call needs: no alignment of any buffer, no memory but the buffers and less than 16 KB of stack (measured), and of the C
  * library memcpy, memmove and memset. It does no input or output, keeps nothing from one call to the next, and always ends. So
@@ -82,9 +88,15 @@ enum {
     VAZHETTU_BAD_BUFFERS = 2,
     /* The lost chip is neither VAZHETTU_NO_CHIP nor 0 to n. */
     VAZHETTU_BAD_LOST_CHIP = 3,
-    /* The records are not sound: never formatted, of another geometry, or damaged. No call but a format takes them. */
+    /*
+     * The records are not sound: never formatted, a format cut, another geometry, or damaged. No call but a format takes
+     * them, and a format loses every page.
+     */
     VAZHETTU_BAD_RECORDS = 4,
-    /* The chips do not fit the records. If it is the fault of one chip, calls that name it as lost are not refused for it. */
+    /*
+     * The chips do not fit the records. If it is the fault of one chip, calls that name it as lost are not refused for it.
+     * A call that names a chip makes no store, so each chip may be tried. Data bytes are not looked at.
+     */
     VAZHETTU_BAD_SPARES = 5,
     /* A collection was cut: vazhettu_open finishes it, and then the call can be made. Reads need not wait. */
     VAZHETTU_COLLECTION_UNDER_WAY = 6,
@@ -106,28 +118,32 @@ enum {
     VAZHETTU_CUT = 255
 };
 
-/* The lost chip of a call that names none. From its loss on a chip is to be named in every call. */
+/*
+ * The lost chip of a call that names none. The caller says which chip is lost, the store does not find out. From its loss on
+ * a chip is to be named in every call, also when power has come back.
+ */
 #define VAZHETTU_NO_CHIP 255
 
 /*
- * The allowance is the number of stores that a call may make, what the capacitor still holds: the call makes no more, and is cut
- * exactly where more are due. A format makes (n + 1) * b + s + 1 stores; an open makes at most k + 2, a collect 2 * k + 4, a
- * commit 2 * k + 6, a write 4 * k + 13. A loss of power between two stores leaves what a cut there leaves. With this one no call is cut.
+ * The allowance is the number of stores that a call may make, what the capacitor still holds: the call makes no more, and is
+ * cut exactly where more are due. A format makes (n + 1) * b + s + 1 stores; an open makes at most k + 2, a collect
+ * 2 * k + 4, a commit 2 * k + 6, a write 4 * k + 13. Where stores happen in order and whole (see above), a loss of power
+ * between two of them leaves what a cut there leaves. With this one no call is cut.
  */
 #define VAZHETTU_NO_LIMIT UINT64_MAX
 
 /*
  * Makes the buffers an empty store, in which every page reads as zeros: erases every block, stores every record empty. What was
- * in the buffers does not matter, and the slots stay as they are. After a cut the other calls may refuse the buffers, and nothing
- * is promised of what they read: format again.
+ * in the buffers does not matter, and the slots stay as they are. After a cut, or if power went, the other calls may refuse
+ * the buffers, and nothing is promised of what they read: format again.
  */
 struct vazhettu_report vazhettu_format(struct vazhettu_geometry g, uint8_t *chips, size_t chips_len, uint8_t *records,
                                        size_t records_len, const uint8_t *slots, size_t slots_len, uint64_t allowance);
 
 /*
  * Finishes a collection that a cut or a loss of power left under way, or takes it back where it had only copied; without one it
- * makes no store. To be called whenever power comes back. Every page reads as before. With a chip named as lost it makes no
- * store either, and the collection stays: reads work all the same.
+ * makes no store. To be called whenever power comes back, before any other call. Every page reads as before. With a chip
+ * named as lost it makes no store either, and the collection stays: reads work all the same.
  */
 struct vazhettu_report vazhettu_open(struct vazhettu_geometry g, uint8_t *chips, size_t chips_len, uint8_t *records,
                                      size_t records_len, const uint8_t *slots, size_t slots_len, uint64_t lost,
