@@ -47,7 +47,7 @@ fn say_counts(c: Counts) {
 
 fn say_refusal(r: Refusal) {
     say(b" refused");
-    say_number(store::refusal_number(r));
+    say_number(answers::refusal_number(r));
 }
 
 fn say_answer(a: Answer) {

@@ -20,7 +20,7 @@ ghost use lib.ListN.{length};
 ghost use Rattle.layout.specs.Layout.{layoutOf, pages};
 ghost use Rattle.layout.specs.Record.{emptyRecord};
 ghost use Rattle.stores.specs.Store.{Store, program as programStore, erase as eraseStore, slot as slotStore, stripe, collection, recorded, apply};
-ghost use Rattle.stores.specs.Steps.{plain, programsOf, erasesOf};
+ghost use Rattle.stores.specs.Steps.{plain, noCounts, programsOf, erasesOf};
 ghost use Rattle.codec.specs.Fit.{ChipsFit, RecordsFit, SlotsFit};
 ghost use Rattle.codec.specs.Views.{recordFrom, collectionFrom, pageFrom, SmallRecord, SmallSpare};
 ghost use Rattle.stores.specs.Allowance.{started, Sane, Ran, images};
@@ -28,7 +28,7 @@ ghost use Rattle.stores.specs.Allowance.{started, Sane, Ran, images};
 // At the beginning of a call. No list is as long as 2^59 stores, so a larger allowance is as good as that, and eight reads for each
 // of them still fit a counter.
 pub fn start(allowance: u64) -> Progress
-    ensures { λ r. ⌜ (r ≡ started (min allowance (2 ^ 59))) × Sane r ⌝ }
+    ensures { λ r. ⌜ (r ≡ started noCounts (min allowance (2 ^ 59))) × Sane r ⌝ }
 {
     let left = if allowance < 576460752303423488 {
         allowance

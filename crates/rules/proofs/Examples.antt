@@ -1,4 +1,5 @@
 -- The worked examples of document 01.
+pub mod Cases
 pub mod Compute
 pub mod FirstWrite
 pub mod Rows

@@ -20,14 +20,14 @@ use Rattle.layout.specs.Collection.{Collection, collectionAt}
 use Rattle.layout.specs.Images.{Images, lengths}
 use Rattle.layout.proofs.Limits.{Within, within}
 use Rattle.stores.specs.declared.Counts.{Counts}
-use Rattle.stores.specs.Steps.{made, isCut, applyAll}
+use Rattle.stores.specs.Steps.{noCounts, made, isCut, applyAll}
 use Rattle.stores.proofs.Prefixes.{EndsIn, Every, every-nil}
 use Rattle.rules.specs.declared.Check.{Check}
 use Rattle.rules.specs.declared.Check.the-variants.{Passed, Failed}
 use Rattle.rules.specs.declared.Reading.the-variants.{Done as ReadDone}
 use Rattle.rules.specs.Blocks.{lowestCleanBlock}
 use Rattle.rules.specs.Sound.{recordsSound, chipSound}
-use Rattle.rules.specs.Refusals.{recordsCheck, sparesCheck, openCheck, writeCheck, commitCheck, collectCheck}
+use Rattle.rules.specs.Refusals.{checked, recordsCheck, sparesCheck, imagesRows, writeRows, commitRows, collectRows}
 use Rattle.rules.specs.Format.{formatSteps}
 use Rattle.rules.specs.Open.{openSteps}
 use Rattle.rules.specs.Collect.{victimOf, collectSteps}
@@ -35,12 +35,11 @@ use Rattle.rules.specs.Place.{placeOf}
 use Rattle.rules.specs.Commit.{cheapest, commitSteps}
 use Rattle.rules.specs.Write.{commitOwed, lowestFreeSlot, writeSteps}
 use Rattle.rules.specs.Read.{fetch}
-use Rattle.rules.specs.Calls.{ReadOutcome, run, outcome, formatCall, readCall, writeCall}
-use Rattle.rules.specs.Book.{Verdict, done, cut, refused, verdict}
+use Rattle.rules.specs.Calls.{ReadOutcome, Verdict, done, cut, refused, verdict, run, outcome, formatCall, readCall, writeCall}
 use Rattle.rules.specs.Demand.{Demand3}
 use Rattle.rules.proofs.Soundness.Statements.{Usable, RecordsSound, ChipSound, SoundBut, Sound, sound-chip, rest-collects}
 use Rattle.rules.proofs.Soundness.Checks.{lengths-are, images-sound, lengths-pass, records-check-pass, spares-check-pass}
-use Rattle.rules.proofs.Soundness.Accepted.{open-accepted, read-passes, WriteAccepted, write-accepted, write-passes, commit-accepted, collect-accepted}
+use Rattle.rules.proofs.Soundness.Accepted.{images-accepted, read-passes, WriteAccepted, write-accepted, write-passes, commit-accepted, collect-accepted}
 use Rattle.rules.proofs.Soundness.RecordChecks.{records-sound, records-pass}
 use Rattle.rules.proofs.Soundness.ChipChecks.{chip-sound, chip-pass}
 use Rattle.rules.proofs.Data.Carries.{Wrote}
@@ -68,10 +67,10 @@ module _ (l : Layout) where
   -- Soundness is kept: by every prefix of the list of every call but format that is not refused, and by a format's whole list.
   pub record SoundnessKept : Type 0 where
     pub format : (s : Images) → limits l ≡ true → lengths l s ≡ true → Sound l (applyAll l (formatSteps l) s)
-    pub open-call : (s : Images) (lost : ℕ) → openCheck l s lost ≡ Passed → Every l (SoundBut l lost) (openSteps l lost s) s
-    pub write : (s : Images) (lost page : ℕ) (xs : List ℕ) → writeCheck l s lost page xs ≡ Passed → Every l (Sound l) (writeSteps l page xs s) s
-    pub commit : (s : Images) (lost j : ℕ) → commitCheck l s lost j ≡ Passed → Every l (Sound l) (commitSteps l j s) s
-    pub collect : (s : Images) (lost c : ℕ) → collectCheck l s lost c ≡ Passed → Every l (Sound l) (collectSteps l c s) s
+    pub open-call : (s : Images) (lost : ℕ) → checked (imagesRows l s lost) ≡ Passed → Every l (SoundBut l lost) (openSteps l lost s) s
+    pub write : (s : Images) (lost page : ℕ) (xs : List ℕ) → checked (writeRows l s lost page xs) ≡ Passed → Every l (Sound l) (writeSteps l page xs s) s
+    pub commit : (s : Images) (lost j : ℕ) → checked (commitRows l s lost j) ≡ Passed → Every l (Sound l) (commitSteps l j s) s
+    pub collect : (s : Images) (lost c : ℕ) → checked (collectRows l s lost c) ≡ Passed → Every l (Sound l) (collectSteps l c s) s
 
   -- Room: in sound images at rest nothing is looked for in vain.
   pub record RoomIn (s : Images) : Type 0 where
@@ -82,7 +81,7 @@ module _ (l : Layout) where
     pub slot : (i : ℕ) × (lowestFreeSlot l (recordAt l (s .records)) ≡ At i)
     pub stripe : (j : ℕ) → commitOwed l (recordAt l (s .records)) j ≡ true → (k : ℕ) × (cheapest l (recordAt l (s .records)) ≡ At k)
     -- "No write is refused for want of space."
-    pub accepted : (page : ℕ) (xs : List ℕ) → page < N * S → length xs ≡ W → writeCheck l s noChip page xs ≡ Passed
+    pub accepted : (page : ℕ) (xs : List ℕ) → page < N * S → length xs ≡ W → checked (writeRows l s noChip page xs) ≡ Passed
     -- no list stops short: that of a write and that of a commit end in the record that they are for
     pub writes : (page : ℕ) (xs : List ℕ) → page < N * S → length xs ≡ W
         → EndsIn (StoresRecord (stripeOf l page)) (writeSteps l page xs s) × Wrote l page xs s (applyAll l (writeSteps l page xs s) s)
@@ -134,9 +133,9 @@ module _ (l : Layout) (some : 1 ≤ l .D) (narrow : l .D ≤ 4) where
   usable : Within l → Usable l
   usable w = record { within = w; some = some; narrow = narrow }
 
-  open-kept : (s : Images) (lost : ℕ) → openCheck l s lost ≡ Passed → Every l (SoundBut l lost) (openSteps l lost s) s
+  open-kept : (s : Images) (lost : ℕ) → checked (imagesRows l s lost) ≡ Passed → Every l (SoundBut l lost) (openSteps l lost s) s
   open-kept s lost passed k =
-      let o = open-accepted l s lost passed in
+      let o = images-accepted l s lost passed in
       by-test (eqb lost noChip)
       (λ e.
       let none-lost = eqb-true lost noChip e in
@@ -217,7 +216,7 @@ module _ (l : Layout) (some : 1 ≤ l .D) (narrow : l .D ≤ 4) where
           }
 
     reads-back-by : (check : Check) (a : ℕ) → (check ≡ Passed → WriteAccepted l s page xs)
-        → ReadsBack l s page xs (verdict (outcome l check a (writeSteps l page xs) s .answer)) (outcome l check a (writeSteps l page xs) s .images)
+        → ReadsBack l s page xs (verdict (outcome l check noCounts a (writeSteps l page xs) s .answer)) (outcome l check noCounts a (writeSteps l page xs) s .images)
     unfolding run
     reads-back-by Passed a o = by-test (isCut a (writeSteps l page xs s))
         (λ e. rw e (cut-back (o refl) a (ltb-true a (length (writeSteps l page xs s)) e)))
@@ -228,7 +227,7 @@ module _ (l : Layout) (some : 1 ≤ l .D) (narrow : l .D ≤ 4) where
   pub reads-back : (s : Images) (lost page : ℕ) (xs : List ℕ) (a : ℕ)
       → ReadsBack l s page xs (verdict (writeCall l s lost page xs a .answer)) (writeCall l s lost page xs a .images)
   unfolding writeCall
-  reads-back s lost page xs a = reads-back-by s page xs (writeCheck l s lost page xs) a (λ passed. write-accepted l s lost page xs passed .1)
+  reads-back s lost page xs a = reads-back-by s page xs (checked (writeRows l s lost page xs)) a (λ passed. write-accepted l s lost page xs passed .1)
 
   pub argument-of : Argument l
   argument-of = record {

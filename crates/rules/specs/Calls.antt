@@ -12,7 +12,7 @@ use Rattle.rules.specs.declared.Answer.{Answer}
 use Rattle.rules.specs.declared.Answer.the-variants.{Done, Cut, Refused}
 use Rattle.rules.specs.declared.Reading.{Reading}
 use Rattle.rules.specs.declared.Reading.the-variants.{Done as ReadDone, Refused as ReadRefused}
-use Rattle.rules.specs.Refusals.{refusalNumber, formatCheck, openCheck, readCheck, writeCheck, commitCheck, collectCheck}
+use Rattle.rules.specs.Refusals.{refusalNumber, checked, buffersRows, imagesRows, readRows, writeRows, commitRows, collectRows}
 use Rattle.rules.specs.Open.{openSteps}
 use Rattle.rules.specs.Collect.{collectSteps}
 use Rattle.rules.specs.Commit.{commitSteps}
@@ -59,40 +59,42 @@ readInto x =
 
 module _ (l : Layout) where
   -- "If the list is longer than the allowance it stops there and answers cut with the counts so far; otherwise done."
-  unfoldable pub run : ℕ → List Step → Images → Outcome
-  run allowance xs s =
+  -- The counts begin from those of what the call did before its first store.
+  unfoldable pub run : Counts → ℕ → List Step → Images → Outcome
+  run before allowance xs s =
       record {
         answer =
             cond (isCut allowance xs)
-            (Cut (countedAll (made allowance xs) noCounts))
-            (Done (countedAll (made allowance xs) noCounts));
+            (Cut (countedAll (made allowance xs) before))
+            (Done (countedAll (made allowance xs) before));
         images = applyAll l (made allowance xs) s;
       }
 
   -- a call that passed its checks makes its list; "the first that applies is returned, counts zero, all buffers unchanged"
-  abbrev pub outcome : Check → ℕ → (Images → List Step) → Images → Outcome
-  outcome Passed allowance steps s = run allowance (steps s) s
-  outcome (Failed r) allowance steps s = record { answer = Refused r; images = s }
+  abbrev pub outcome : Check → Counts → ℕ → (Images → List Step) → Images → Outcome
+  outcome Passed before allowance steps s = run before allowance (steps s) s
+  outcome (Failed r) before allowance steps s = record { answer = Refused r; images = s }
 
   -- format: images, allowance
   unfoldable pub formatCall : Images → ℕ → Outcome
-  formatCall s allowance = outcome (formatCheck l s) allowance (λ t. formatSteps l) s
+  formatCall s allowance = outcome (checked (buffersRows l s)) noCounts allowance (λ t. formatSteps l) s
 
   -- open: images, lost chip, allowance
   unfoldable pub openCall : Images → ℕ → ℕ → Outcome
-  openCall s lost allowance = outcome (openCheck l s lost) allowance (openSteps l lost) s
+  openCall s lost allowance = outcome (checked (imagesRows l s lost)) noCounts allowance (openSteps l lost) s
 
   -- write: images, lost chip, page, data, allowance
   unfoldable pub writeCall : Images → ℕ → ℕ → List ℕ → ℕ → Outcome
-  writeCall s lost page xs allowance = outcome (writeCheck l s lost page xs) allowance (writeSteps l page xs) s
+  writeCall s lost page xs allowance =
+      outcome (checked (writeRows l s lost page xs)) noCounts allowance (writeSteps l page xs) s
 
   -- commit: images, lost chip, stripe, allowance
   unfoldable pub commitCall : Images → ℕ → ℕ → ℕ → Outcome
-  commitCall s lost j allowance = outcome (commitCheck l s lost j) allowance (commitSteps l j) s
+  commitCall s lost j allowance = outcome (checked (commitRows l s lost j)) noCounts allowance (commitSteps l j) s
 
   -- collect: images, lost chip, chip, allowance
   unfoldable pub collectCall : Images → ℕ → ℕ → ℕ → Outcome
-  collectCall s lost c allowance = outcome (collectCheck l s lost c) allowance (collectSteps l c) s
+  collectCall s lost c allowance = outcome (checked (collectRows l s lost c)) noCounts allowance (collectSteps l c) s
 
   -- a read refused leaves its buffer
   abbrev pub readOutcome : Check → Images → ℕ → ℕ → List ℕ → ReadOutcome
@@ -101,4 +103,70 @@ module _ (l : Layout) where
 
   -- read: images, lost chip, page, buffer
   unfoldable pub readCall : Images → ℕ → ℕ → List ℕ → ReadOutcome
-  readCall s lost page buffer = readOutcome (readCheck l s lost page buffer) s lost page buffer
+  readCall s lost page buffer = readOutcome (checked (readRows l s lost page buffer)) s lost page buffer
+
+-- A call that only reads, with "each call's arguments but the images".
+pub data Query : Type 0 where
+  -- lost chip, page, buffer
+  read-call : ℕ → ℕ → List ℕ → Query
+
+-- A call on the images of a store, with the same.
+pub data Call : Type 0 where
+  -- lost chip, allowance
+  open-call : ℕ → ℕ → Call
+  -- lost chip, page, data, allowance
+  write-call : ℕ → ℕ → List ℕ → ℕ → Call
+  -- lost chip, stripe, allowance
+  commit-call : ℕ → ℕ → ℕ → Call
+  -- lost chip, chip, allowance
+  collect-call : ℕ → ℕ → ℕ → Call
+  query-call : Query → Call
+
+-- the chip that a query names as lost
+abbrev pub queryLost : Query → ℕ
+queryLost (read-call lost page buffer) = lost
+
+-- the chip that a call names as lost
+abbrev pub lostChip : Call → ℕ
+lostChip (open-call lost a) = lost
+lostChip (write-call lost page xs a) = lost
+lostChip (commit-call lost j a) = lost
+lostChip (collect-call lost c a) = lost
+lostChip (query-call q) = queryLost q
+
+-- "whether the call was answered done, cut or refused"
+pub data Verdict : Type 0 where
+  done cut refused : Verdict
+
+-- of a call that stores
+abbrev pub verdict : Answer → Verdict
+verdict (Done n) = done
+verdict (Cut n) = cut
+verdict (Refused r) = refused
+
+-- of a read
+abbrev pub readVerdict : Reading → Verdict
+readVerdict (ReadDone n) = done
+readVerdict (ReadRefused r) = refused
+
+-- what is seen of a call from outside: its verdict, and the images that it leaves to the next
+pub record Ended : Type 0 where
+  pub verdict : Verdict
+  pub images : Images
+
+-- of a call that stores
+abbrev pub stored : Outcome → Ended
+stored o = record { verdict = verdict (o .answer); images = o .images }
+
+module _ (l : Layout) where
+  -- of a query
+  unfoldable pub answered : Query → Images → Verdict
+  answered (read-call lost page buffer) s = readVerdict (readCall l s lost page buffer .answer)
+
+  -- The table of calls: what comes of each. A query leaves the images.
+  unfoldable pub ended : Call → Images → Ended
+  ended (open-call lost a) s = stored (openCall l s lost a)
+  ended (write-call lost page xs a) s = stored (writeCall l s lost page xs a)
+  ended (commit-call lost j a) s = stored (commitCall l s lost j a)
+  ended (collect-call lost c a) s = stored (collectCall l s lost c a)
+  ended (query-call q) s = record { verdict = answered q s; images = s }

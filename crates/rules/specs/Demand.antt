@@ -8,8 +8,8 @@ use Rattle.layout.specs.Layout.{Layout, noChip, chipBytes}
 use Rattle.layout.specs.Images.{Images}
 use Rattle.stores.specs.declared.Counts.{Counts}
 use Rattle.rules.specs.declared.Reading.the-variants.{Done as ReadDone}
-use Rattle.rules.specs.Calls.{ReadOutcome, formatCall, openCall, readCall, writeCall, commitCall, collectCall}
-use Rattle.rules.specs.Book.{Call, open-call, read-call, write-call, commit-call, collect-call, lostChip, Verdict, done, verdict, readVerdict, Book, finished, booked}
+use Rattle.rules.specs.Calls.{ReadOutcome, Call, lostChip, done, verdict, ended, formatCall, readCall}
+use Rattle.rules.specs.Book.{Book, finished, booked}
 
 -- the images and the book together
 pub record World : Type 0 where
@@ -24,28 +24,13 @@ allName c (call ∷ calls) = (lostChip call ≡ c) × allName c calls
 module _ (l : Layout) where
   open Layout l using (N, W, S)
 
-  -- the images after a call; a read leaves them
-  abbrev pub imagesAfter : Call → Images → Images
-  imagesAfter (open-call lost a) s = openCall l s lost a .images
-  imagesAfter (read-call lost page buffer) s = s
-  imagesAfter (write-call lost page xs a) s = writeCall l s lost page xs a .images
-  imagesAfter (commit-call lost j a) s = commitCall l s lost j a .images
-  imagesAfter (collect-call lost c a) s = collectCall l s lost c a .images
-
-  -- "whether the call was answered done, cut or refused, as the table, the cut rule and later requests have it"
-  abbrev pub verdictOf : Call → Images → Verdict
-  verdictOf (open-call lost a) s = verdict (openCall l s lost a .answer)
-  verdictOf (read-call lost page buffer) s = readVerdict (readCall l s lost page buffer .answer)
-  verdictOf (write-call lost page xs a) s = verdict (writeCall l s lost page xs a .answer)
-  verdictOf (commit-call lost j a) s = verdict (commitCall l s lost j a .answer)
-  verdictOf (collect-call lost c a) s = verdict (collectCall l s lost c a .answer)
-
-  -- one call: "It is fed each call's arguments but the images, and whether the call was answered ..; it sees nothing else."
+  -- one call: "It is fed each call's arguments but the images, and whether the call was answered done, cut or refused, as the
+  -- table, the cut rule and later requests have it; it sees nothing else."
   unfoldable pub called : Call → World → World
   called call x =
       record {
-        images = imagesAfter call (x .images);
-        book = booked call (verdictOf call (x .images)) (x .book);
+        images = ended l call (x .images) .images;
+        book = booked call (ended l call (x .images) .verdict) (x .book);
       }
 
   -- "gets chips, records and slots as the last one left them, be it done, cut or refused"

@@ -1,7 +1,7 @@
 -- Document 01, "Where a call is turned back": "Checked from top to bottom; the first that applies is returned".
 use Prim.Native.Nat.{ℕ, _*_}
 use mathlib.Core.Bool.{Bool, true, false, _||_}
-use mathlib.Core.List.{List}
+use mathlib.Core.List.{List, [], _∷_, _++_}
 use lib.ListN.{length}
 use lib.Dec.{leb, ltb, eqb}
 use Rattle.units.specs.Look.{whenFound}
@@ -30,10 +30,18 @@ refusalNumber Data = 8
 refusalNumber ChipSet = 9
 refusalNumber Work = 10
 
--- a row of the table: refused with r unless the test holds, and then the rows below
+-- a row of the table: the test that a call has to pass, and its refusal where it does not
+abbrev pub Row : Type 0
+Row = Bool × Refusal
+
 abbrev pub unless : Bool → Refusal → Check → Check
 unless true r below = below
 unless false r below = Failed r
+
+-- what the rows of a call come to: "the first that applies is returned"
+abbrev pub checked : List Row → Check
+checked [] = Passed
+checked ((test, r) ∷ rows) = unless test r (checked rows)
 
 module _ (l : Layout) where
   open Layout l using (N, W, S)
@@ -55,55 +63,46 @@ module _ (l : Layout) where
   abbrev pub atRest : Images → Bool
   atRest s = eqb (collectionAt l (s .records) .phase) 0
 
-  -- rows 1 and 2, of all calls
-  unfoldable pub buffersCheck : Images → Check → Check
-  buffersCheck s below = unless (limits l) Geometry (unless (lengths l s) Buffers below)
+  -- "no full block with an unnamed page"
+  abbrev pub collectableOn : Images → ℕ → Bool
+  collectableOn s c = whenFound (victimOf l c (pageAt l (s .chips) c) (recordAt l (s .records))) (λ b. true) false
 
-  -- format: no more
-  unfoldable pub formatCheck : Images → Check
-  formatCheck s = buffersCheck s Passed
+  -- rows 1 and 2, of all calls
+  unfoldable pub buffersRows : Images → List Row
+  buffersRows s = (limits l, Geometry) ∷ (lengths l s, Buffers) ∷ []
 
   -- rows 1 to 5, of all but format
-  unfoldable pub imagesCheck : Images → ℕ → Check → Check
-  imagesCheck s lost below =
-      buffersCheck s
-      (unless (lostNamed lost) LostChip
-      (unless (recordsCheck s) Records
-      (unless (sparesCheck s lost) Spares below)))
-
-  -- open: rows 1 to 5
-  unfoldable pub openCheck : Images → ℕ → Check
-  openCheck s lost = imagesCheck s lost Passed
-
-  -- read: then "page .. too high", "not W bytes"
-  unfoldable pub readCheck : Images → ℕ → ℕ → List ℕ → Check
-  readCheck s lost page buffer =
-      imagesCheck s lost (unless (ltb page (N * S)) Request (unless (eqb (length buffer) W) Data Passed))
+  unfoldable pub imagesRows : Images → ℕ → List Row
+  imagesRows s lost =
+      buffersRows s ++ ((lostNamed lost, LostChip) ∷ (recordsCheck s, Records) ∷ (sparesCheck s lost, Spares) ∷ [])
 
   -- rows 1 to 6, of write, commit and collect
-  unfoldable pub settledCheck : Images → ℕ → Check → Check
-  settledCheck s lost below = imagesCheck s lost (unless (atRest s) Collection below)
+  unfoldable pub settledRows : Images → ℕ → List Row
+  settledRows s lost = imagesRows s lost ++ ((atRest s, Collection) ∷ [])
 
-  -- write: then "page .. too high", "not W bytes", "a chip is lost"
-  unfoldable pub writeCheck : Images → ℕ → ℕ → List ℕ → Check
-  writeCheck s lost page xs =
-      settledCheck s lost
-      (unless (ltb page (N * S)) Request
-      (unless (eqb (length xs) W) Data
-      (unless (eqb lost noChip) ChipSet Passed)))
+  -- rows 7 and 8: "page .. too high", "not W bytes"
+  abbrev pub pageRows : ℕ → ℕ → List Row
+  pageRows page len = (ltb page (N * S), Request) ∷ (eqb len W, Data) ∷ []
+
+  -- row 9: "a chip is lost"
+  abbrev pub chipSetRow : ℕ → Row
+  chipSetRow lost = (eqb lost noChip, ChipSet)
+
+  -- read
+  unfoldable pub readRows : Images → ℕ → ℕ → List ℕ → List Row
+  readRows s lost page buffer = imagesRows s lost ++ pageRows page (length buffer)
+
+  -- write
+  unfoldable pub writeRows : Images → ℕ → ℕ → List ℕ → List Row
+  writeRows s lost page xs = (settledRows s lost ++ pageRows page (length xs)) ++ (chipSetRow lost ∷ [])
 
   -- commit: then "stripe .. too high", "a chip is lost", "no slot"
-  unfoldable pub commitCheck : Images → ℕ → ℕ → Check
-  commitCheck s lost j =
-      settledCheck s lost
-      (unless (ltb j S) Request
-      (unless (eqb lost noChip) ChipSet
-      (unless (hasSlot (recordAt l (s .records) j)) Work Passed)))
+  unfoldable pub commitRows : Images → ℕ → ℕ → List Row
+  commitRows s lost j =
+      (settledRows s lost ++ ((ltb j S, Request) ∷ chipSetRow lost ∷ []))
+      ++ ((hasSlot (recordAt l (s .records) j), Work) ∷ [])
 
   -- collect: then "chip too high", "a chip is lost", "no full block with an unnamed page"
-  unfoldable pub collectCheck : Images → ℕ → ℕ → Check
-  collectCheck s lost c =
-      settledCheck s lost
-      (unless (leb c N) Request
-      (unless (eqb lost noChip) ChipSet
-      (unless (whenFound (victimOf l c (pageAt l (s .chips) c) (recordAt l (s .records))) (λ b. true) false) Work Passed)))
+  unfoldable pub collectRows : Images → ℕ → ℕ → List Row
+  collectRows s lost c =
+      (settledRows s lost ++ ((leb c N, Request) ∷ chipSetRow lost ∷ [])) ++ ((collectableOn s c, Work) ∷ [])

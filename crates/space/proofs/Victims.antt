@@ -1,6 +1,6 @@
 -- The victim: a block can be collected where it is full and has fewer named pages than pages; the named ones are counted by their stamps.
 use Prim.Native.Nat.{ℕ, zero, suc, _≤_, _<_}
-use native.Mathlib.Nat.{le-step, lt-suc-self}
+use native.Mathlib.Nat.{le-step, lt-suc-self, le-refl}
 use native.Mathlib.Omega.{arith}
 use mathlib.Core.Path.{_≡_, refl, sym, _∙_}
 use mathlib.Core.Bool.{Bool, true, _&&_}
@@ -9,8 +9,8 @@ use lib.Dec.{ltb}
 use borrow.Author.Tests.{not-true, not-false, lt-ltb, le-ltb, ltb-true}
 use Rattle.units.specs.declared.Found.{Found}
 use Rattle.units.specs.declared.Found.the-variants.{At, Nothing}
-use Rattle.units.specs.Look.{someBelow, better, leastBelow}
-use Rattle.units.proofs.Looks.{by-test, by-order, some-at, some-none, least-at}
+use Rattle.units.specs.Look.{someBelow, better, leastBelow, whenFound}
+use Rattle.units.proofs.Looks.{by-test, by-found, some-at, some-none, least-at}
 use Rattle.units.proofs.Counts.{count-cong, count-all, count-less}
 use Rattle.units.proofs.Tests.{and-both}
 use Rattle.units.proofs.Tallies.{same-tests}
@@ -25,8 +25,9 @@ use Rattle.rules.specs.Collect.{collectable, namedCount, victimOf}
 use Rattle.names.specs.Stamps.{TagsPass}
 use Rattle.names.proofs.Stamping.{named-stamped}
 use Rattle.spares.specs.declared.ChipScan.{ChipScan}
-use Rattle.spares.specs.Scans.{stampedIn, stampedCount, loose, Scanned, AllScanned}
-use Rattle.space.specs.Victims.{victimIn, Victims}
+use Rattle.spares.specs.Scans.{stampedIn, stampedCount, loose, chipScan, chipScans}
+use Rattle.spares.proofs.Scanning.{scans-at}
+use Rattle.space.specs.Victims.{victimIn, victimWanted, VictimFor, Victims}
 
 -- ---- the least of numbers
 
@@ -92,15 +93,30 @@ module _ {g : Geometry} {chips records : List ℕ} {c : ℕ} (h : TagsPass g chi
       rw (full, stamped-named b low) (lt-ltb (namedCount l c x r b) (g .k) few))
 
   -- the scan of the whole chip has found the victim
-  pub victim-found : {s : ChipScan} → Scanned l r x c (g .b) s → victimIn (g .k) s ≡ victimOf l c x r
-  unfolding victimIn victimOf
-  victim-found {s} e =
+  pub victim-found : {s : ChipScan} → s ≡ chipScan l r x c (g .b) → victimIn (g .k) s ≡ victimOf l c x r
+  unfolding chipScan victimIn victimOf loose whenFound
+  victim-found e =
       let same = least-cong (g .b) (loose l r x c) (collectable l c x r) (stampedCount l r x c) (namedCount l c x r) loose-collectable stamped-named in
-      by-order (s .fewest) (g .k)
-      (λ few. rw (lt-ltb (s .fewest) (g .k) few) (sym (e .fewest few .0) ∙ same))
-      (λ most. rw (le-ltb (s .fewest) (g .k) most) (sym (e .nothing (omega (arith, e .high))) ∙ same))
+      by-found (leastBelow (g .b) (loose l r x c) (stampedCount l r x c))
+      (λ v found.
+      let (_, passes, _, _) = least-at (g .b) (loose l r x c) (stampedCount l r x c) v found in
+      let (_, few) = and-both (fullBlock l x v) (ltb (stampedCount l r x c v) (g .k)) passes in
+      rw (e, found, few) (sym found ∙ same))
+      (λ nothing. rw (e, nothing, le-ltb (g .k) (g .k) (le-refl (g .k))) (sym nothing ∙ same))
+
+-- the one that is wanted is the victim, where there is no place
+pub victim-wanted : {g : Geometry} {chips records : List ℕ} {c : ℕ} {v : Found}
+    → v ≡ victimWanted (layoutOf g) c (pageAt (layoutOf g) chips c) (recordAt (layoutOf g) records) → VictimFor g chips records c v
+unfolding victimWanted whenFound
+victim-wanted e = record { is = λ nowhere. e ∙ rw nowhere }
 
 -- of every chip
 pub victims-known : {g : Geometry} {chips records : List ℕ} {scans : List ChipScan} → ((c : ℕ) → c ≤ g .n → TagsPass g chips records c) → (lost : ℕ) → g .n < lost
-    → AllScanned (layoutOf g) (recordAt (layoutOf g) records) (pageAt (layoutOf g) chips) lost (g .b) scans → Victims g chips records scans
-victims-known tags lost high h = record { long = h .long; at = λ c low. victim-found (tags c low) (h .at c low (λ q. omega arith)) }
+    → scans ≡ chipScans (layoutOf g) (recordAt (layoutOf g) records) (pageAt (layoutOf g) chips) lost (g .b) → Victims g chips records scans
+unfolding chipScans
+victims-known {g} {chips} tags lost high e =
+    let l = layoutOf g in
+    record {
+      long = rw e;
+      at = λ c low. let h = tags c low in victim-found h (scans-at l _ (pageAt l chips) lost (g .b) e (within l (h .chips-fit .limited) .members-high) c low (λ q. omega arith));
+    }

@@ -7,10 +7,11 @@ use lib.Dec.{ltb}
 use lib.ListN.{length, getD}
 use Rattle.units.specs.declared.Found.{Found}
 use Rattle.units.specs.declared.Found.the-variants.{At, Nothing}
+use Rattle.units.specs.Look.{whenFound}
 use Rattle.layout.specs.declared.Geometry.{Geometry}
-use Rattle.layout.specs.Layout.{layoutOf}
-use Rattle.layout.specs.Page.{pageAt}
-use Rattle.layout.specs.Record.{recordAt}
+use Rattle.layout.specs.Layout.{Layout, layoutOf}
+use Rattle.layout.specs.Page.{Page, pageAt}
+use Rattle.layout.specs.Record.{Record, recordAt}
 use Rattle.rules.specs.Place.{placeOf}
 use Rattle.rules.specs.Collect.{victimOf}
 use Rattle.spares.specs.declared.ChipScan.{ChipScan}
@@ -19,6 +20,10 @@ use Rattle.spares.specs.Scans.{unscanned}
 -- the victim that a scan has found; K named pages stand for none
 unfoldable pub victimIn : ℕ → ChipScan → Found
 victimIn k s = cond (ltb (s .fewest) k) (At (s .victim)) Nothing
+
+-- the victim that is wanted of chip c, with its pages x and the records r: none where it has a place
+unfoldable pub victimWanted : Layout → ℕ → (ℕ → Page) → (ℕ → Record) → Found
+victimWanted l c x r = whenFound (placeOf l x) (λ p. Nothing) (victimOf l c x r)
 
 -- v is the victim of chip c, where it has no place
 pub record VictimFor (g : Geometry) (chips records : List ℕ) (c : ℕ) (v : Found) : Type 0 where

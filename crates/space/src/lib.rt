@@ -10,12 +10,13 @@ ghost use mathlib.Core.Path.{_≡_};
 ghost use Prim.Native.Nat.{_≤_, _<_};
 ghost use Rattle.layout.specs.Layout.{layoutOf, pages};
 ghost use Rattle.layout.specs.Page.{pageAt, clean as isClean};
+ghost use Rattle.layout.specs.Record.{recordAt};
 ghost use Rattle.rules.specs.Blocks.{lowestCleanBlock};
 ghost use Rattle.rules.specs.Place.{placeOf};
 ghost use Rattle.codec.specs.Fit.{ChipsFit};
 ghost use Rattle.names.specs.Stamps.{TagsPass};
 ghost use Rattle.space.specs.Ordered.{Ordered};
-ghost use Rattle.space.specs.Victims.{victimIn, VictimFor};
+ghost use Rattle.space.specs.Victims.{victimIn, victimWanted};
 
 // Whether page p of chip c is clean.
 fn is_clean(chips: &[u8], g: Geometry, c: usize, p: usize) -> bool
@@ -97,11 +98,11 @@ pub fn victim_in(g: Geometry, s: ChipScan) -> Found
     }
 }
 
-// The full block of chip c with fewest named pages, if one has a page that is not named. Where the chip has a place nobody asks for
-// it, and nothing is said.
+// The full block of chip c with fewest named pages, if one has a page that is not named; none where the chip has a place, for then
+// nobody asks for it.
 pub fn victim_on(chips: &[u8], records: &[u8], g: Geometry, c: usize) -> Found
     requires { ⌜ Ordered g (now chips) c × TagsPass g (now chips) (now records) c ⌝ }
-    ensures { λ r. ⌜ VictimFor g (now (chips .entry)) (now (records .entry)) c r ⌝ }
+    ensures { λ r. ⌜ r ≡ victimWanted (layoutOf g) c (pageAt (layoutOf g) (now (chips .entry)) c) (recordAt (layoutOf g) (now (records .entry))) ⌝ }
 {
     if let Found::At(_) = place_on(chips, g, c) {
         return Found::Nothing;

@@ -29,7 +29,7 @@ use Rattle.names.specs.Stamps.{stamped, TagsPass}
 use Rattle.units.proofs.Tallies.{same-tests}
 use Rattle.spares.specs.declared.ChipScan.{ChipScan}
 use Rattle.names.specs.Checked.{RecordsPass}
-use Rattle.spares.specs.Scans.{Scanned, phaseSound}
+use Rattle.spares.specs.Scans.{chipScan, phaseSound}
 use Rattle.names.proofs.Totals.{foundOn, taggedOrLost, namesKept, total-tags}
 
 -- ---- tests
@@ -110,12 +110,12 @@ judge-start = record { names = refl; shapes = refl }
 
 module _ {l : Layout} {r : ℕ → Record} {y : ℕ → ℕ → Page} {co : Collection} {lost c named : ℕ} {shaped : Bool} (h : Judged l r y co lost c named shaped) where
   -- with one chip more that is not lost, of which s is the scan
-  pub judge-more : {s : ChipScan} → c ≢ lost → Scanned l r (y c) c (l .B) s
+  pub judge-more : {s : ChipScan} → c ≢ lost → s ≡ chipScan l r (y c) c (l .B)
       → Judged l r y co lost (c + 1) (named + s .named) (shaped && s .ordered && (s .clean || collecting co c))
-  unfolding sumBelow allBelow
+  unfolding chipScan sumBelow allBelow
   judge-more d e = record {
-    names = rw (e .names, h .names, add-one, ne-eqb c lost d);
-    shapes = rw (e .orders, e .cleans, h .shapes, add-one, ne-eqb c lost d) (and-assoc (allBelow c (shapedOrLost l r y co lost)) (allBelow (l .B) (orderedBlock l (y c))) (someBelow (l .B) (cleanBlock l (y c)) || collecting co c));
+    names = rw (e, h .names, add-one, ne-eqb c lost d);
+    shapes = rw (e, h .shapes, add-one, ne-eqb c lost d) (and-assoc (allBelow c (shapedOrLost l r y co lost)) (allBelow (l .B) (orderedBlock l (y c))) (someBelow (l .B) (cleanBlock l (y c)) || collecting co c));
   }
 
   -- with the lost one

@@ -1,21 +1,22 @@
 -- Page numbers that fit, what the loops over a block and over a chip have found so far, and the test of a twin.
-use Prim.Native.Nat.{ℕ, _+_, _-_, _*_, _%_, _≤_, _<_}
+use Prim.Native.Nat.{ℕ, zero, suc, _+_, _-_, _*_, _%_, _≤_, _<_}
 use native.Mathlib.Nat.{suc-mul, zero-mul, mul-le-mul-right, le-refl}
 use native.Mathlib.Numerals.{add-one}
 use native.Mathlib.Omega.{arith}
 use mathlib.Core.Path.{_≡_, refl, sym, _∙_}
 use mathlib.Core.Bool.{Bool, true, false, not, _&&_, _||_}
-use mathlib.Core.List.{List}
+use mathlib.Core.List.{List, [], _∷_, map}
 use mathlib.Core.Logic.{_≢_}
 use lib.ListN.{length, getD, set, replicate, length-set, getD-replicate}
-use lib.Seq.{getD-set-same, getD-set-other}
+use lib.Seq.{getD-set-same, getD-set-other, ext-getD}
 use lib.Dec.{eqb, ltb}
-use borrow.Author.Tests.{lt-ltb, ltb-true, ltb-false}
-use Rattle.units.specs.Look.{allBelow, someBelow, countBelow}
+use borrow.Author.Tests.{eq-eqb, ne-eqb, lt-ltb, le-ltb, ltb-true, ltb-false}
+use Rattle.units.specs.declared.Found.{Found}
+use Rattle.units.specs.declared.Found.the-variants.{At}
+use Rattle.units.specs.Look.{allBelow, someBelow, countBelow, leastBelow, whenFound}
 use Rattle.units.proofs.Counts.{count-start, count-le}
-use Rattle.units.proofs.Looks.{at-last, all-cong}
-use Rattle.units.proofs.Leasts.{Best, best-start, best-takes, best-stays}
-use Rattle.units.proofs.Tests.{and-both}
+use Rattle.units.proofs.Looks.{at-last, by-test, by-order, by-found, both, all-cong, least-start, least-skips, least-here, least-better, least-keeps, least-at}
+use Rattle.units.proofs.Tests.{and-both, both-and, or-right, cond-same}
 use Rattle.layout.specs.declared.Geometry.{Geometry}
 use Rattle.layout.specs.Layout.{Layout, layoutOf, limits, none, pages, pageIn}
 use Rattle.layout.specs.Page.{Page}
@@ -32,7 +33,7 @@ use Rattle.units.proofs.Tallies.{count-from}
 use Rattle.spares.specs.declared.Scan.{Scan}
 use Rattle.spares.specs.declared.ChipScan.{ChipScan}
 use Rattle.spares.specs.declared.Fill.{Fill}
-use Rattle.spares.specs.Scans.{unscanned, stampedIn, StampsOf, fillOf, stampedCount, loose, blockScan, Scanned, AllScanned}
+use Rattle.spares.specs.Scans.{unscanned, stampedIn, StampsOf, fillOf, stampedCount, loose, blockScan, chipScan, scanOf, chipScans}
 
 -- ---- page numbers
 
@@ -88,119 +89,159 @@ pub block-scan : (l : Layout) (r : ℕ → Record) (x : ℕ → Page) (c b : ℕ
 unfolding blockScan fillOf stampedCount
 block-scan l r x c b o e n = rw (o, e, n)
 
+-- ---- the least so far, of those that are full and whose measure m is below a bound
+
+module _ (full : ℕ → Bool) (m : ℕ → ℕ) (bound n : ℕ) where
+  abbrev apt : ℕ → Bool
+  apt i = full i && ltb (m i) bound
+
+  abbrev least : Found
+  least = leastBelow n apt m
+
+  -- n is full and its measure is less
+  least-takes : full n && ltb (m n) (whenFound least m bound) ≡ true → leastBelow (suc n) apt m ≡ At n
+  unfolding whenFound
+  least-takes t =
+      let (f, less) = and-both (full n) (ltb (m n) (whenFound least m bound)) t in
+      by-found least
+      (λ i e.
+      let fewer : m n < m i = ltb-true (m n) (m i) (rw e at less) in
+      let (_, passes, _, _) = least-at n apt m i e in
+      let under = ltb-true (m i) bound (and-both (full i) (ltb (m i) bound) passes .1) in
+      least-better n apt m i (both-and f (lt-ltb (m n) bound (omega arith))) e fewer)
+      (λ e. least-here n apt m (both-and f (rw e at less)) e)
+
+  -- or it is not
+  least-stays : full n && ltb (m n) (whenFound least m bound) ≡ false → leastBelow (suc n) apt m ≡ least
+  unfolding whenFound
+  least-stays t = by-test (apt n)
+      (λ s.
+      let (f, under) = and-both (full n) (ltb (m n) bound) s in
+      let more : ltb (m n) (whenFound least m bound) ≡ false = rw f at t in
+      by-found least
+      (λ i e. least-keeps n apt m i s e (ltb-false (m n) (m i) (rw e at more)) ∙ sym e)
+      (λ e. both (ltb (m n) bound) under (rw e at more)))
+      (least-skips n apt m)
+
 -- ---- the blocks of chip c below b, with its pages x
 
 -- nothing before the first
 pub scan-start : (l : Layout) (r : ℕ → Record) (x : ℕ → Page) (c : ℕ)
-    → Scanned l r x c 0 (record { ordered = true; clean = false; named = 0; victim = 0; fewest = l .K })
-unfolding allBelow someBelow
-scan-start l r x c =
-    let best = best-start (loose l r x c) (stampedCount l r x c) (l .K) 0 in
-    record {
-      orders = refl;
-      cleans = refl;
-      names = rw zero-mul (sym (count-start (stamped l r x c)));
-      high = best .high;
-      fewest = best .some;
-      nothing = best .nothing;
-    }
+    → record { ordered = true; clean = false; named = 0; victim = 0; fewest = l .K } ≡ chipScan l r x c 0
+unfolding chipScan allBelow someBelow whenFound
+scan-start l r x c = rw (zero-mul, count-start (stamped l r x c), least-start (loose l r x c) (stampedCount l r x c))
 
-module _ {l : Layout} {r : ℕ → Record} {x : ℕ → Page} {c b : ℕ} {s : ChipScan} (h : Scanned l r x c b s) where
+module _ (l : Layout) (r : ℕ → Record) (x : ℕ → Page) (c b : ℕ) {s : ChipScan} {n : Scan} (h : s ≡ chipScan l r x c b) (e : n ≡ blockScan l r x c b) where
   open Layout l using (K)
 
-  chosen : Best (loose l r x c) (stampedCount l r x c) K b (s .victim) (s .fewest)
-  chosen = record { high = h .high; some = h .fewest; nothing = h .nothing }
+  -- with block b, of which n is the scan, there are no more names than pages
+  pub scan-few : s .named + n .named ≤ (b + 1) * K
+  unfolding chipScan blockScan stampedCount
+  scan-few =
+      rw (h, e, add-one, suc-mul)
+      (omega (arith, count-le (b * K) (stamped l r x c), count-le K (stampedIn l r x c b)))
 
-  -- no more names than pages so far
-  pub scan-few : s .named ≤ b * K
-  scan-few = omega (arith, h .names, count-le (b * K) (stamped l r x c))
+  -- the victim is the one found
+  scan-more : (found : Found) {v f : ℕ} → leastBelow (suc b) (loose l r x c) (stampedCount l r x c) ≡ found
+      → v ≡ whenFound found (λ i. i) 0 → f ≡ whenFound found (stampedCount l r x c) K
+      → record { ordered = s .ordered && n .ordered; clean = s .clean || n .clean; named = s .named + n .named; victim = v; fewest = f } ≡ chipScan l r x c (b + 1)
+  unfolding chipScan blockScan allBelow someBelow stampedCount
+  scan-more found is v f = rw (v, f, h, e, ← is, add-one, suc-mul, count-from (b * K) K (stamped l r x c))
 
-  -- with one block more, of which n is the scan
-  module _ {n : Scan} (e : n ≡ blockScan l r x c b) where
-    scan-more : (v f : ℕ) → Best (loose l r x c) (stampedCount l r x c) K (b + 1) v f
-        → Scanned l r x c (b + 1) (record { ordered = s .ordered && n .ordered; clean = s .clean || n .clean; named = s .named + n .named; victim = v; fewest = f })
-    unfolding allBelow someBelow blockScan stampedCount
-    scan-more v f best =
-        record {
-          orders = rw (e, h .orders, add-one);
-          cleans = rw (e, h .cleans, add-one);
-          names = rw (e, h .names, add-one, suc-mul) (sym (count-from (b * K) K (stamped l r x c)));
-          high = best .high;
-          fewest = best .some;
-          nothing = best .nothing;
-        }
+  -- block b, where it is full and has fewer names than any before
+  pub scan-takes : n .full && ltb (n .named) (s .fewest) ≡ true
+      → record { ordered = s .ordered && n .ordered; clean = s .clean || n .clean; named = s .named + n .named; victim = b; fewest = n .named } ≡ chipScan l r x c (b + 1)
+  unfolding chipScan blockScan loose whenFound
+  scan-takes t = scan-more (At b) (least-takes (fullBlock l x) (stampedCount l r x c) K b (rw (h, e) at t)) refl (rw e)
 
-    -- no more names than pages then
-    pub scan-more-few : s .named + n .named ≤ (b + 1) * K
-    unfolding blockScan stampedCount
-    scan-more-few =
-        let more : n .named ≡ countBelow K (stampedIn l r x c b) = rw e in
-        rw (add-one, suc-mul) (omega (arith, scan-few, count-le K (stampedIn l r x c b)))
+  -- or the one before
+  pub scan-stays : n .full && ltb (n .named) (s .fewest) ≡ false
+      → record { ordered = s .ordered && n .ordered; clean = s .clean || n .clean; named = s .named + n .named; victim = s .victim; fewest = s .fewest } ≡ chipScan l r x c (b + 1)
+  unfolding chipScan blockScan loose
+  scan-stays t =
+      let same = least-stays (fullBlock l x) (stampedCount l r x c) K b (rw (h, e) at t) in
+      scan-more (leastBelow b (loose l r x c) (stampedCount l r x c)) same (rw h) (rw h)
 
-    -- it is full and has fewer names than any before
-    pub scan-takes : n .full && ltb (n .named) (s .fewest) ≡ true
-        → Scanned l r x c (b + 1) (record { ordered = s .ordered && n .ordered; clean = s .clean || n .clean; named = s .named + n .named; victim = b; fewest = n .named })
-    unfolding blockScan loose
-    scan-takes t =
-        let (full, less) = and-both (n .full) (ltb (n .named) (s .fewest)) t in
-        let few : stampedCount l r x c b < s .fewest = rw e at (ltb-true (n .named) (s .fewest) less) in
-        let named : n .named ≡ stampedCount l r x c b = rw e in
-        let full-block : fullBlock l x b ≡ true = rw e at full in
-        let low : ltb (stampedCount l r x c b) K ≡ true = lt-ltb (stampedCount l r x c b) K (omega (arith, h .high)) in
-        scan-more b (n .named) (rw named (best-takes chosen (rw (full-block, low)) few))
+-- ---- all chips
 
-    -- it is not
-    pub scan-stays : n .full && ltb (n .named) (s .fewest) ≡ false
-        → Scanned l r x c (b + 1) (record { ordered = s .ordered && n .ordered; clean = s .clean || n .clean; named = s .named + n .named; victim = s .victim; fewest = s .fewest })
-    unfolding blockScan loose
-    scan-stays t = scan-more (s .victim) (s .fewest) (best-stays chosen (λ loose-block.
-        let (full, low) = and-both (fullBlock l x b) (ltb (stampedCount l r x c b) K) loose-block in
-        let more : ltb (stampedCount l r x c b) (s .fewest) ≡ false = rw (e, full) at t in
-        (ltb-false (stampedCount l r x c b) (s .fewest) more, ltb-true (stampedCount l r x c b) K low)))
+at-seven : (f : ℕ → ChipScan) (c : ℕ) → c < 7 → getD (map f (0 ∷ 1 ∷ 2 ∷ 3 ∷ 4 ∷ 5 ∷ 6 ∷ [])) c unscanned ≡ f c
+at-seven f zero h = refl
+at-seven f (suc zero) h = refl
+at-seven f (suc (suc zero)) h = refl
+at-seven f (suc (suc (suc zero))) h = refl
+at-seven f (suc (suc (suc (suc zero)))) h = refl
+at-seven f (suc (suc (suc (suc (suc zero))))) h = refl
+at-seven f (suc (suc (suc (suc (suc (suc zero)))))) h = refl
+at-seven f (suc (suc (suc (suc (suc (suc (suc c))))))) h = absurd (omega arith)
 
--- ---- block b of every chip but the lost one
-
--- the chips below c have one block more than the others
+-- the row of block b: the chips below c have it, the others not yet
 pub record Row (l : Layout) (r : ℕ → Record) (y : ℕ → ℕ → Page) (lost b c : ℕ) (scans : List ChipScan) : Type 0 where
   pub long : length scans ≡ 7
-  pub made : (i : ℕ) → i < c → i ≢ lost → Scanned l r (y i) i (b + 1) (getD scans i unscanned)
-  pub due : (i : ℕ) → c ≤ i → i ≤ l .N → i ≢ lost → Scanned l r (y i) i b (getD scans i unscanned)
+  pub made : (i : ℕ) → i < c → getD scans i unscanned ≡ scanOf l r y lost (b + 1) i
+  pub due : (i : ℕ) → c ≤ i → i < 7 → getD scans i unscanned ≡ scanOf l r y lost b i
 
-module _ {l : Layout} {r : ℕ → Record} {y : ℕ → ℕ → Page} {lost b : ℕ} where
+module _ (l : Layout) (r : ℕ → Record) (y : ℕ → ℕ → Page) (lost b : ℕ) where
+  open Layout l using (N)
+
+  -- the blocks of a chip that is there and not lost
+  scan-there : (c : ℕ) → c ≤ N → c ≢ lost → scanOf l r y lost b c ≡ chipScan l r (y c) c b
+  scan-there c there d = rw (ne-eqb c lost d, le-ltb N c there)
+
+  pub scans-at : {scans : List ChipScan} → scans ≡ chipScans l r y lost b → N ≤ 6 → (c : ℕ) → c ≤ N → c ≢ lost
+      → getD scans c unscanned ≡ chipScan l r (y c) c b
+  unfolding chipScans
+  scans-at e few c there d = rw e (at-seven (scanOf l r y lost b) c (omega arith) ∙ scan-there c there d)
+
+  -- of no other chip a block is looked at
+  scan-gone : (c : ℕ) → eqb c lost || ltb N c ≡ true → scanOf l r y lost b c ≡ scanOf l r y lost (b + 1) c
+  scan-gone c t = rw t
+
   -- no chip yet
-  pub row-start : {scans : List ChipScan} → AllScanned l r y lost b scans → Row l r y lost b 0 scans
-  row-start h = record { long = h .long; made = λ i less. absurd (omega arith); due = λ i _. h .at i }
+  pub row-start : {scans : List ChipScan} → scans ≡ chipScans l r y lost b → Row l r y lost b 0 scans
+  unfolding chipScans
+  row-start e = rw e (record { long = refl; made = λ i less. absurd (omega arith); due = λ i _. at-seven (scanOf l r y lost b) i })
 
-  module _ {c : ℕ} {scans : List ChipScan} (h : Row l r y lost b c scans) where
-    -- with chip c
-    pub row-more : {s : ChipScan} → c < 7 → Scanned l r (y c) c (b + 1) s → Row l r y lost b (c + 1) (set scans c s)
-    row-more {s} low e = record {
-      long = length-set scans c s ∙ h .long;
-      made = λ i less d. at-last i c (rw add-one at less)
-          (λ before. rw (getD-set-other scans c i s unscanned (λ q. omega arith)) (h .made i before d))
-          (λ q. rw (q, getD-set-same scans c s unscanned (rw (h .long) low)) e);
-      due = λ i more within-chips d. rw (getD-set-other scans c i s unscanned (λ q. omega arith)) (h .due i (omega arith) within-chips d);
-    }
+module _ {l : Layout} {r : ℕ → Record} {y : ℕ → ℕ → Page} {lost b c : ℕ} {scans : List ChipScan} (h : Row l r y lost b c scans) where
+  open Layout l using (N)
 
-    -- with the lost one
-    pub row-lost : c ≡ lost → Row l r y lost b (c + 1) scans
-    row-lost e = record {
-      long = h .long;
-      made = λ i less d. at-last i c (rw add-one at less) (λ before. h .made i before d) (λ q. absurd (d (q ∙ e)));
-      due = λ i more. h .due i (omega arith);
-    }
+  -- the next chip, if it is not lost
+  pub row-next : c < 7 → c ≤ N → c ≢ lost → getD scans c unscanned ≡ chipScan l r (y c) c b
+  row-next low there d = h .due c (le-refl c) low ∙ scan-there l r y lost b c there d
 
-    -- after the last
-    pub row-all : c ≡ l .N + 1 → AllScanned l r y lost (b + 1) scans
-    row-all e = record { long = h .long; at = λ i low. h .made i (omega arith) }
+  -- with it
+  pub row-more : {s : ChipScan} → c < 7 → c ≤ N → c ≢ lost → s ≡ chipScan l r (y c) c (b + 1) → Row l r y lost b (c + 1) (set scans c s)
+  row-more {s} low there d e = record {
+    long = length-set scans c s ∙ h .long;
+    made = λ i less. at-last i c (rw add-one at less)
+        (λ before. getD-set-other scans c i s unscanned (λ q. omega arith) ∙ h .made i before)
+        (λ q. rw q (getD-set-same scans c s unscanned (rw (h .long) low) ∙ e ∙ sym (scan-there l r y lost (b + 1) c there d)));
+    due = λ i more few. getD-set-other scans c i s unscanned (λ q. omega arith) ∙ h .due i (omega arith) few;
+  }
 
--- no block of any chip yet: all have the same scan
-pub all-start : {l : Layout} {r : ℕ → Record} {y : ℕ → ℕ → Page} {lost : ℕ} {s : ChipScan} → l .N ≤ 6
-    → ((c : ℕ) → Scanned l r (y c) c 0 s) → AllScanned l r y lost 0 (replicate 7 s)
-all-start {l} {r} {y} {lost} {s} few h = record {
-  long = refl;
-  at = λ c low _. rw (getD-replicate 7 c s unscanned (omega arith)) (h c);
-}
+  -- with the lost one
+  pub row-lost : c < 7 → c ≡ lost → Row l r y lost b (c + 1) scans
+  row-lost low e = record {
+    long = h .long;
+    made = λ i less. at-last i c (rw add-one at less) (h .made i)
+        (λ q. rw q (h .due c (le-refl c) low ∙ scan-gone l r y lost b c (rw (eq-eqb c lost e))));
+    due = λ i more. h .due i (omega arith);
+  }
+
+  -- after the last
+  pub row-all : c ≡ N + 1 → scans ≡ chipScans l r y lost (b + 1)
+  unfolding chipScans
+  row-all e = ext-getD unscanned scans (chipScans l r y lost (b + 1)) (h .long) (λ i less.
+      let low : i < 7 = rw (h .long) at less in
+      by-order i c (h .made i) (λ behind. h .due i behind low ∙ scan-gone l r y lost b i (or-right (eqb i lost) (lt-ltb N i (omega arith))))
+      ∙ sym (at-seven (scanOf l r y lost (b + 1)) i low))
+
+-- no block of any chip yet
+pub all-start : (l : Layout) (r : ℕ → Record) (y : ℕ → ℕ → Page) (lost : ℕ) {s : ChipScan}
+    → ((c : ℕ) → s ≡ chipScan l r (y c) c 0) → replicate 7 s ≡ chipScans l r y lost 0
+unfolding chipScans
+all-start l r y lost {s} h = ext-getD unscanned (replicate 7 s) (chipScans l r y lost 0) refl (λ i low.
+    getD-replicate 7 i s unscanned low ∙ h i
+    ∙ sym (at-seven (scanOf l r y lost 0) i low ∙ rw (cond-same (eqb i lost || ltb (l .N) i) 0)))
 
 -- ---- twins
 

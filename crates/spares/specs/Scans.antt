@@ -2,14 +2,13 @@
 use Prim.Native.Nat.{ℕ, _+_, _*_, _/_, _%_, _≤_, _<_}
 use mathlib.Core.Path.{_≡_}
 use mathlib.Core.Bool.{Bool, true, false, not, cond, _&&_, _||_}
-use mathlib.Core.List.{List}
+use mathlib.Core.List.{List, [], _∷_, map}
 use mathlib.Core.Logic.{_≢_}
-use lib.ListN.{length, getD}
+use lib.ListN.{getD}
 use lib.Dec.{eqb, ltb}
 use Rattle.units.specs.Number.{number}
 use Rattle.units.specs.Units.{part}
-use Rattle.units.specs.declared.Found.the-variants.{At, Nothing}
-use Rattle.units.specs.Look.{allBelow, someBelow, countBelow, leastBelow}
+use Rattle.units.specs.Look.{allBelow, someBelow, countBelow, leastBelow, whenFound}
 use Rattle.layout.specs.Layout.{Layout, pageIn}
 use Rattle.layout.specs.Page.{Page}
 use Rattle.layout.specs.Record.{Record}
@@ -17,11 +16,12 @@ use Rattle.layout.specs.Collection.{Collection}
 use Rattle.layout.specs.Rotation.{parityChip, memberOn}
 use Rattle.rules.specs.Names.{kindOn, memberTag}
 use Rattle.rules.specs.Blocks.{cleanBlock, fullBlock, orderedBlock}
-use Rattle.rules.specs.Sound.{phase1Sound, phase2Sound}
+use Rattle.rules.specs.Sound.{phase1Sound, phase2Sound, sparesSound}
 use Rattle.names.specs.Stamps.{stamped}
 use Rattle.spares.specs.declared.Scan.{Scan}
 use Rattle.spares.specs.declared.ChipScan.{ChipScan}
 use Rattle.spares.specs.declared.Fill.{Fill}
+use Rattle.spares.specs.declared.Survey.{Survey}
 
 -- the tag t is the kind k and behind it the member m
 pub record TagIs (t k m : ℕ) : Type 0 where
@@ -41,7 +41,7 @@ abbrev pub unscanned : ChipScan
 unscanned = record { ordered = false; clean = false; named = 0; victim = 0; fewest = 0 }
 
 module _ (l : Layout) where
-  open Layout l using (N, K, S)
+  open Layout l using (N, K, B, S)
 
   -- place i of block b of chip c is named by the record that it is stamped for
   abbrev pub stampedIn : (ℕ → Record) → (ℕ → Page) → ℕ → ℕ → ℕ → Bool
@@ -96,19 +96,31 @@ module _ (l : Layout) where
         }
 
     -- of the blocks below b: all are in order, some block is wholly clean, so many pages are named; of the loose ones the victim has
-    -- fewest named pages
-    pub record Scanned (b : ℕ) (s : ChipScan) : Type 0 where
-      pub orders : s .ordered ≡ allBelow b (orderedBlock l x)
-      pub cleans : s .clean ≡ someBelow b (cleanBlock l x)
-      pub names : s .named ≡ countBelow (b * K) (stamped l r x c)
-      pub high : s .fewest ≤ K
-      pub fewest : s .fewest < K → (leastBelow b loose stampedCount ≡ At (s .victim)) × (stampedCount (s .victim) ≡ s .fewest)
-      pub nothing : s .fewest ≡ K → leastBelow b loose stampedCount ≡ Nothing
+    -- fewest named pages, and where there is none, 0 and K stand for it
+    unfoldable pub chipScan : ℕ → ChipScan
+    chipScan b =
+        record {
+          ordered = allBelow b (orderedBlock l x);
+          clean = someBelow b (cleanBlock l x);
+          named = countBelow (b * K) (stamped l r x c);
+          victim = whenFound (leastBelow b loose stampedCount) (λ v. v) 0;
+          fewest = whenFound (leastBelow b loose stampedCount) stampedCount K;
+        }
 
-  -- of every chip but the lost one, with the pages y of each
-  pub record AllScanned (r : ℕ → Record) (y : ℕ → ℕ → Page) (lost b : ℕ) (scans : List ChipScan) : Type 0 where
-    pub long : length scans ≡ 7
-    pub at : (c : ℕ) → c ≤ N → c ≢ lost → Scanned r (y c) c b (getD scans c unscanned)
+  -- of every chip, with the pages y of each; no block is looked at of the lost one, and of those that are not there
+  module _ (r : ℕ → Record) (y : ℕ → ℕ → Page) (lost : ℕ) where
+    abbrev pub blocksOf : ℕ → ℕ → ℕ
+    blocksOf b c = cond (eqb c lost || ltb N c) 0 b
+
+    abbrev pub scanOf : ℕ → ℕ → ChipScan
+    scanOf b c = chipScan r (y c) c (blocksOf b c)
+
+    unfoldable pub chipScans : ℕ → List ChipScan
+    chipScans b = map (scanOf b) (0 ∷ 1 ∷ 2 ∷ 3 ∷ 4 ∷ 5 ∷ 6 ∷ [])
+
+  -- and whether the spares are sound
+  unfoldable pub survey : (ℕ → Record) → (ℕ → ℕ → Page) → Collection → ℕ → Survey
+  survey r y co lost = record { sound = sparesSound l r y co lost; chips = chipScans r y lost B }
 
   -- what a collection under way asks of its chip, with the chip's pages x
   unfoldable pub phaseSound : (ℕ → Record) → (ℕ → Page) → Collection → Bool

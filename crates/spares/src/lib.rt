@@ -28,7 +28,7 @@ ghost use Rattle.codec.specs.Fit.{ChipsFit, RecordsFit};
 ghost use Rattle.codec.specs.Views.{CollectionIs};
 ghost use Rattle.names.specs.Checked.{RecordsPass};
 ghost use Rattle.names.specs.Stamps.{namesIn, TagsPass};
-ghost use Rattle.spares.specs.Scans.{TagIs, stampedIn, StampsOf, fieldOf, FieldsOf, FieldsFit, hasNumber, fillOf, blockScan, Scanned, AllScanned, phaseSound};
+ghost use Rattle.spares.specs.Scans.{TagIs, stampedIn, StampsOf, fieldOf, FieldsOf, FieldsFit, hasNumber, fillOf, blockScan, chipScan, chipScans, survey, phaseSound};
 
 // What a pass over the spares of a block brings.
 pub struct Scan {
@@ -281,8 +281,8 @@ fn with_block(
     s: ChipScan,
 ) -> ChipScan
     requires { ⌜ ChipsFit g (now chips) × RecordsFit g (now records) × (c ≤ g .n) × (b < g .b)
-        × Scanned (layoutOf g) (recordAt (layoutOf g) (now records)) (pageAt (layoutOf g) (now chips) c) c b s ⌝ }
-    ensures { λ r. ⌜ Scanned (layoutOf g) (recordAt (layoutOf g) (now (records .entry))) (pageAt (layoutOf g) (now (chips .entry)) c) c (b + 1) r ⌝ }
+        × (s ≡ chipScan (layoutOf g) (recordAt (layoutOf g) (now records)) (pageAt (layoutOf g) (now chips) c) c b) ⌝ }
+    ensures { λ r. ⌜ r ≡ chipScan (layoutOf g) (recordAt (layoutOf g) (now (records .entry))) (pageAt (layoutOf g) (now (chips .entry)) c) c (b + 1) ⌝ }
 {
     let scan = scan_block(chips, records, g, c, b);
     let mut next = ChipScan {
@@ -302,7 +302,7 @@ fn with_block(
 // No block yet.
 fn no_block(g: Geometry) -> ChipScan
     requires { ⌜ limits (layoutOf g) ≡ true ⌝ }
-    ensures { λ s. ⌜ ((r : ℕ → Record) (x : ℕ → Page) (c : ℕ) → Scanned (layoutOf g) r x c 0 s) ⌝ }
+    ensures { λ s. ⌜ ((r : ℕ → Record) (x : ℕ → Page) (c : ℕ) → s ≡ chipScan (layoutOf g) r x c 0) ⌝ }
 {
     ChipScan {
         ordered: true,
@@ -316,7 +316,7 @@ fn no_block(g: Geometry) -> ChipScan
 // One look at each page's spare of chip c.
 pub fn scan_chip(chips: &[u8], records: &[u8], g: Geometry, c: usize) -> ChipScan
     requires { ⌜ ChipsFit g (now chips) × RecordsFit g (now records) × (c ≤ g .n) ⌝ }
-    ensures { λ r. ⌜ Scanned (layoutOf g) (recordAt (layoutOf g) (now (records .entry))) (pageAt (layoutOf g) (now (chips .entry)) c) c (g .b) r ⌝ }
+    ensures { λ r. ⌜ r ≡ chipScan (layoutOf g) (recordAt (layoutOf g) (now (records .entry))) (pageAt (layoutOf g) (now (chips .entry)) c) c (g .b) ⌝ }
 {
     let blocks = g.b as usize;
     let mut scan = no_block(g);
@@ -338,8 +338,8 @@ fn with_row(
     scans: [ChipScan; 7],
 ) -> [ChipScan; 7]
     requires { ⌜ ChipsFit g (now chips) × RecordsFit g (now records) × (b < g .b)
-        × AllScanned (layoutOf g) (recordAt (layoutOf g) (now records)) (pageAt (layoutOf g) (now chips)) lost b scans ⌝ }
-    ensures { λ r. ⌜ AllScanned (layoutOf g) (recordAt (layoutOf g) (now (records .entry))) (pageAt (layoutOf g) (now (chips .entry))) lost (b + 1) r ⌝ }
+        × (scans ≡ chipScans (layoutOf g) (recordAt (layoutOf g) (now records)) (pageAt (layoutOf g) (now chips)) lost b) ⌝ }
+    ensures { λ r. ⌜ r ≡ chipScans (layoutOf g) (recordAt (layoutOf g) (now (records .entry))) (pageAt (layoutOf g) (now (chips .entry))) lost (b + 1) ⌝ }
 {
     let n = g.n as usize;
     let mut next = scans;
@@ -358,7 +358,7 @@ fn with_row(
 // stripes are mostly those of the same block on other chips, whose records were just looked at.
 fn scan_all(chips: &[u8], records: &[u8], g: Geometry, lost: usize) -> [ChipScan; 7]
     requires { ⌜ ChipsFit g (now chips) × RecordsFit g (now records) ⌝ }
-    ensures { λ r. ⌜ AllScanned (layoutOf g) (recordAt (layoutOf g) (now (records .entry))) (pageAt (layoutOf g) (now (chips .entry))) lost (g .b) r ⌝ }
+    ensures { λ r. ⌜ r ≡ chipScans (layoutOf g) (recordAt (layoutOf g) (now (records .entry))) (pageAt (layoutOf g) (now (chips .entry))) lost (g .b) ⌝ }
 {
     let blocks = g.b as usize;
     let first = no_block(g);
@@ -459,7 +459,7 @@ fn spares_pass(
 ) -> bool
     requires { ⌜ ChipsFit g (now chips) × RecordsPass g (now records) × CollectionIs co (collectionAt (layoutOf g) (now records))
         × (names ≡ namesIn (layoutOf g) (recordAt (layoutOf g) (now records)) (g .s))
-        × AllScanned (layoutOf g) (recordAt (layoutOf g) (now records)) (pageAt (layoutOf g) (now chips)) lost (g .b) scans ⌝ }
+        × (scans ≡ chipScans (layoutOf g) (recordAt (layoutOf g) (now records)) (pageAt (layoutOf g) (now chips)) lost (g .b)) ⌝ }
     ensures { λ r. ⌜ r ≡ sparesSound (layoutOf g) (recordAt (layoutOf g) (now (records .entry))) (pageAt (layoutOf g) (now (chips .entry))) (collectionAt (layoutOf g) (now (records .entry))) lost ⌝ }
 {
     let n = g.n as usize;
@@ -499,8 +499,7 @@ pub fn scan_spares(
 ) -> Survey
     requires { ⌜ ChipsFit g (now chips) × RecordsPass g (now records) × CollectionIs co (collectionAt (layoutOf g) (now records))
         × (names ≡ namesIn (layoutOf g) (recordAt (layoutOf g) (now records)) (g .s)) ⌝ }
-    ensures { λ r. ⌜ (r .sound ≡ sparesSound (layoutOf g) (recordAt (layoutOf g) (now (records .entry))) (pageAt (layoutOf g) (now (chips .entry))) (collectionAt (layoutOf g) (now (records .entry))) lost)
-        × AllScanned (layoutOf g) (recordAt (layoutOf g) (now (records .entry))) (pageAt (layoutOf g) (now (chips .entry))) lost (g .b) (r .chips) ⌝ }
+    ensures { λ r. ⌜ r ≡ survey (layoutOf g) (recordAt (layoutOf g) (now (records .entry))) (pageAt (layoutOf g) (now (chips .entry))) (collectionAt (layoutOf g) (now (records .entry))) lost ⌝ }
 {
     let scans = scan_all(chips, records, g, lost);
     let sound = spares_pass(chips, records, g, co, names, lost, scans);

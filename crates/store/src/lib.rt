@@ -1,9 +1,7 @@
-//! The calls of the store. Each answers what its definition says, for any numbers and any buffers.
+//! The calls of the store. Each answers what its definition says, for any numbers and any buffers: the look at the images, the refusal,
+//! the run.
 
-use checks::geometry_passes;
-use checks::lengths_pass;
-use checks::scan_records;
-use codec::collection_at;
+use answers::answer;
 use codec::slot_at;
 use collect::collect_chip;
 use collect::finish;
@@ -11,139 +9,31 @@ use device::start;
 use formatting::format_all;
 use gather::fetch;
 use layout::Geometry;
+use looks::also;
+use looks::buffers_check;
+use looks::images_look;
+use looks::page_fits;
+use looks::settled_look;
 use rules::Answer;
 use rules::Check;
 use rules::Reading;
 use rules::Refusal;
 use space::victim_in;
-use spares::ChipScan;
-use spares::scan_spares;
 use stores::Counts;
-use stores::Progress;
 use units::Found;
 use updates::commit_stripe;
 use updates::write_member;
 ghost use mathlib.Core.Path.{_≡_};
-ghost use mathlib.Core.Bool.{cond};
+ghost use mathlib.Core.Bool.{Bool};
+ghost use mathlib.Core.List.{[], _∷_};
+ghost use Prim.Native.Nat.{_*_};
+ghost use lib.Dec.{ltb, eqb};
 ghost use Rattle.layout.specs.Layout.{layoutOf};
-ghost use Rattle.rules.specs.declared.Check.the-variants.{Passed, Failed};
-ghost use Rattle.rules.specs.declared.Answer.the-variants.{Cut, Done};
-ghost use Rattle.rules.specs.Refusals.{refusalNumber, buffersCheck, imagesCheck, settledCheck};
+ghost use Rattle.rules.specs.declared.Refusal.the-variants.{Request, Data, ChipSet};
+ghost use Rattle.rules.specs.Refusals.{checked};
 ghost use Rattle.rules.specs.Calls.{Outcome, ReadOutcome, formatCall, openCall, writeCall, commitCall, collectCall, readCall};
 ghost use Rattle.stores.specs.Allowance.{images};
-ghost use Rattle.store.specs.Looks.{Seen};
-
-// The number of a refusal in the table.
-pub fn refusal_number(r: Refusal) -> u64
-    ensures { λ n. ⌜ n ≡ refusalNumber r ⌝ }
-{
-    match r {
-        Refusal::Geometry => 1,
-        Refusal::Buffers => 2,
-        Refusal::LostChip => 3,
-        Refusal::Records => 4,
-        Refusal::Spares => 5,
-        Refusal::Collection => 6,
-        Refusal::Request => 7,
-        Refusal::Data => 8,
-        Refusal::ChipSet => 9,
-        Refusal::Work => 10,
-    }
-}
-
-// Rows 1 and 2 of the table of refusals.
-fn buffers_check(g: Geometry, chips: &[u8], records: &[u8], slots: &[u8]) -> Check
-    ensures { λ r. ⌜ r ≡ buffersCheck (layoutOf g) (images (now (chips .entry)) (now (records .entry)) (now (slots .entry))) Passed ⌝ }
-{
-    if !geometry_passes(g) {
-        return Check::Failed(Refusal::Geometry);
-    }
-    if !lengths_pass(g, chips, records, slots) {
-        return Check::Failed(Refusal::Buffers);
-    }
-    Check::Passed
-}
-
-// What the rows about the images come to, and what the look at the spares has brought where they pass.
-struct Look {
-    check: Check,
-    chips: [ChipScan; 7],
-}
-
-// A look that ends in a refusal.
-fn refused(r: Refusal) -> Look
-    ensures { λ o. ⌜ o .check ≡ Failed r ⌝ }
-{
-    let none = ChipScan {
-        ordered: false,
-        clean: false,
-        named: 0,
-        victim: 0,
-        fewest: 0,
-    };
-    Look {
-        check: Check::Failed(r),
-        chips: [none; 7],
-    }
-}
-
-// Rows 1 to 5.
-fn images_look(g: Geometry, chips: &[u8], records: &[u8], slots: &[u8], lost: usize) -> Look
-    ensures { λ r. ⌜ (r .check ≡ imagesCheck (layoutOf g) (images (now (chips .entry)) (now (records .entry)) (now (slots .entry))) lost Passed)
-        × Seen g (now (chips .entry)) (now (records .entry)) lost r ⌝ }
-{
-    let first = buffers_check(g, chips, records, slots);
-    if let Check::Failed(r) = first {
-        return refused(r);
-    }
-    let n = g.n as usize;
-    if !((lost == 255) | (lost <= n)) {
-        return refused(Refusal::LostChip);
-    }
-    let scan = scan_records(g, records);
-    if !scan.sound {
-        return refused(Refusal::Records);
-    }
-    let co = collection_at(records, g);
-    let survey = scan_spares(chips, records, g, co, scan.names, lost);
-    if !survey.sound {
-        return refused(Refusal::Spares);
-    }
-    let scans = survey.chips;
-    Look {
-        check: Check::Passed,
-        chips: scans,
-    }
-}
-
-// Rows 1 to 6.
-fn settled_look(g: Geometry, chips: &[u8], records: &[u8], slots: &[u8], lost: usize) -> Look
-    ensures { λ r. ⌜ (r .check ≡ settledCheck (layoutOf g) (images (now (chips .entry)) (now (records .entry)) (now (slots .entry))) lost Passed)
-        × Seen g (now (chips .entry)) (now (records .entry)) lost r ⌝ }
-{
-    let look = images_look(g, chips, records, slots, lost);
-    let first = look.check;
-    if let Check::Failed(r) = first {
-        return refused(r);
-    }
-    let co = collection_at(records, g);
-    if co.phase != 0 {
-        return refused(Refusal::Collection);
-    }
-    look
-}
-
-// The answer of a call that stores.
-fn answer(p: Progress) -> Answer
-    ensures { λ r. ⌜ r ≡ cond (p .cut) (Cut (p .counts)) (Done (p .counts)) ⌝ }
-{
-    let counts = p.counts;
-    if p.cut {
-        Answer::Cut(counts)
-    } else {
-        Answer::Done(counts)
-    }
-}
+ghost use Rattle.looks.specs.Looks.{below};
 
 // Makes the images an empty store.
 pub fn format(
@@ -158,10 +48,10 @@ pub fn format(
         (formatCall (layoutOf g) (images (now (chips .entry)) (now (records .entry)) (now (slots .entry))) allowance) ⌝ }
 {
     let check = buffers_check(g, chips, records, slots);
-    match check {
-        Check::Failed(r) => Answer::Refused(r),
-        Check::Passed => answer(format_all(chips, records, g, start(allowance))),
+    if let Check::Failed(r) = check {
+        return Answer::Refused(r);
     }
+    answer(format_all(chips, records, g, start(allowance)))
 }
 
 // Finishes a collection that a cut left under way.
@@ -182,10 +72,29 @@ pub fn open(
     if let Check::Failed(r) = check {
         return Answer::Refused(r);
     }
-    if lost == 255 {
-        return answer(finish(chips, records, g, start(allowance)));
+    if lost != 255 {
+        return answer(start(allowance));
     }
-    answer(start(allowance))
+    answer(finish(chips, records, g, start(allowance)))
+}
+
+// Rows 7 and 8 of read and write, below the others.
+fn page_check(first: Check, g: Geometry, page: u64, len: usize) -> Check
+    ensures { λ r. ⌜ r ≡ below first (checked ((ltb page (g .n * g .s), Request) ∷ (eqb len (g .w), Data) ∷ [])) ⌝ }
+{
+    let fits = also(first, page_fits(g, page), Refusal::Request);
+    also(fits, len == g.w as usize, Refusal::Data)
+}
+
+// Rows 7 and 9 of commit and collect.
+fn free_check(first: Check, fits: bool, lost: u64) -> Check
+    ensures { λ r. ⌜ r ≡ below first (checked ((fits, Request) ∷ (eqb lost 255, ChipSet) ∷ [])) ⌝ }
+{
+    also(
+        also(first, fits, Refusal::Request),
+        lost == 255,
+        Refusal::ChipSet,
+    )
 }
 
 // Fills the buffer with a page.
@@ -203,15 +112,10 @@ pub fn read(
         (readCall (layoutOf g) (images (now (chips .entry)) (now (records .entry)) (now (slots .entry))) lost page (now (buffer .entry))) ⌝ }
 {
     let look = images_look(g, chips, records, slots, lost as usize);
-    let check = look.check;
+    let first = look.check;
+    let check = page_check(first, g, page, buffer.len());
     if let Check::Failed(r) = check {
         return Reading::Refused(r);
-    }
-    if g.n * g.s <= page {
-        return Reading::Refused(Refusal::Request);
-    }
-    if buffer.len() != g.w as usize {
-        return Reading::Refused(Refusal::Data);
     }
     let j = (page / g.n) as usize;
     let m = (page % g.n) as usize;
@@ -240,18 +144,11 @@ pub fn write(
         (writeCall (layoutOf g) (images (now (chips .entry)) (now (records .entry)) (now (slots .entry))) lost page (now (bytes .entry)) allowance) ⌝ }
 {
     let look = settled_look(g, chips, records, slots, lost as usize);
-    let check = look.check;
+    let first = look.check;
+    let above = page_check(first, g, page, bytes.len());
+    let check = also(above, lost == 255, Refusal::ChipSet);
     if let Check::Failed(r) = check {
         return Answer::Refused(r);
-    }
-    if g.n * g.s <= page {
-        return Answer::Refused(Refusal::Request);
-    }
-    if bytes.len() != g.w as usize {
-        return Answer::Refused(Refusal::Data);
-    }
-    if lost != 255 {
-        return Answer::Refused(Refusal::ChipSet);
     }
     let j = (page / g.n) as usize;
     let m = (page % g.n) as usize;
@@ -284,15 +181,10 @@ pub fn commit(
         (commitCall (layoutOf g) (images (now (chips .entry)) (now (records .entry)) (now (slots .entry))) lost stripe allowance) ⌝ }
 {
     let look = settled_look(g, chips, records, slots, lost as usize);
-    let check = look.check;
+    let first = look.check;
+    let check = free_check(first, stripe < g.s, lost);
     if let Check::Failed(r) = check {
         return Answer::Refused(r);
-    }
-    if g.s <= stripe {
-        return Answer::Refused(Refusal::Request);
-    }
-    if lost != 255 {
-        return Answer::Refused(Refusal::ChipSet);
     }
     let j = stripe as usize;
     if slot_at(records, g, j) == 255 {
@@ -317,15 +209,10 @@ pub fn collect(
         (collectCall (layoutOf g) (images (now (chips .entry)) (now (records .entry)) (now (slots .entry))) lost chip allowance) ⌝ }
 {
     let look = settled_look(g, chips, records, slots, lost as usize);
-    let check = look.check;
+    let first = look.check;
+    let check = free_check(first, chip <= g.n, lost);
     if let Check::Failed(r) = check {
         return Answer::Refused(r);
-    }
-    if g.n < chip {
-        return Answer::Refused(Refusal::Request);
-    }
-    if lost != 255 {
-        return Answer::Refused(Refusal::ChipSet);
     }
     let c = chip as usize;
     let scans = look.chips;

@@ -1,13 +1,13 @@
 -- The counts of a list are totals over it.
 use Prim.Native.Nat.{ℕ, _+_, _<_}
-use native.Mathlib.Nat.{zero-add, le-of-lt}
+use native.Mathlib.Nat.{le-of-lt}
 use native.Mathlib.Omega.{arith}
-use mathlib.Core.Path.{_≡_, _∙_}
+use mathlib.Core.Path.{_≡_, ap, _∙_}
 use mathlib.Core.List.{List, [], _∷_}
 use lib.ListN.{length}
 use lib.Seq.{length-take-le}
 use Rattle.stores.specs.declared.Counts.{Counts}
-use Rattle.stores.specs.Steps.{Step, made, noCounts, programsOf, erasesOf, counted, countedAll}
+use Rattle.stores.specs.Steps.{Step, made, programsOf, erasesOf, counted, countedAll}
 
 -- what f makes of each step, added up
 unfoldable pub total : (Step → ℕ) → List Step → ℕ
@@ -44,18 +44,24 @@ unfolding countedAll counted
 stores-from [] n = omega arith
 stores-from (x ∷ xs) n = omega (arith, stores-from xs (counted x n))
 
--- "pages read (data or parity), pages programmed, blocks erased, stores", added up over a list
-abbrev pub totals : List Step → Counts
-totals xs = record { reads = total stepReads xs; programs = total stepPrograms xs; erases = total stepErases xs; stores = length xs }
+-- the counts n, and "pages read (data or parity), pages programmed, blocks erased, stores" added up over a list
+abbrev pub withTotals : Counts → List Step → Counts
+withTotals n xs =
+    record {
+      reads = n .reads + total stepReads xs;
+      programs = n .programs + total stepPrograms xs;
+      erases = n .erases + total stepErases xs;
+      stores = n .stores + length xs;
+    }
 
-pub counts-are : (xs : List Step) → countedAll xs noCounts ≡ totals xs
-counts-are xs = λ i. record {
-  reads = (reads-from xs noCounts ∙ zero-add (total stepReads xs)) i;
-  programs = (programs-from xs noCounts ∙ zero-add (total stepPrograms xs)) i;
-  erases = (erases-from xs noCounts ∙ zero-add (total stepErases xs)) i;
-  stores = (stores-from xs noCounts ∙ zero-add (length xs)) i;
+pub counts-are : (xs : List Step) (n : Counts) → countedAll xs n ≡ withTotals n xs
+counts-are xs n = λ i. record {
+  reads = reads-from xs n i;
+  programs = programs-from xs n i;
+  erases = erases-from xs n i;
+  stores = stores-from xs n i;
 }
 
 -- a cut makes as many stores as the allowance
-pub cut-stores : (a : ℕ) (xs : List Step) → a < length xs → countedAll (made a xs) noCounts .stores ≡ a
-cut-stores a xs h = stores-from (made a xs) noCounts ∙ zero-add (length (made a xs)) ∙ length-take-le a xs (le-of-lt h)
+pub cut-stores : (a : ℕ) (xs : List Step) (n : Counts) → a < length xs → countedAll (made a xs) n .stores ≡ n .stores + a
+cut-stores a xs n h = stores-from (made a xs) n ∙ ap (λ k. n .stores + k) (length-take-le a xs (le-of-lt h))

@@ -6,12 +6,13 @@ use mathlib.Core.List.{List}
 use lib.ListN.{length}
 use Rattle.layout.specs.Layout.{Layout}
 use Rattle.layout.specs.Images.{Images}
-use Rattle.stores.specs.Steps.{Step, made, isCut, noCounts, countedAll, applyAll}
+use Rattle.stores.specs.Steps.{Step, made, isCut, countedAll, applyAll}
+use Rattle.stores.specs.declared.Counts.{Counts}
 use Rattle.stores.specs.declared.Progress.{Progress}
 
--- nothing is stored yet
-abbrev pub started : ℕ → Progress
-started allowance = record { counts = noCounts; left = allowance; cut = false }
+-- nothing is stored yet; the counts are those of what the call did before
+abbrev pub started : Counts → ℕ → Progress
+started before allowance = record { counts = before; left = allowance; cut = false }
 
 -- after a list of steps, as far as the allowance goes
 unfoldable pub after : Progress → List Step → Progress

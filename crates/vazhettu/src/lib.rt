@@ -40,7 +40,7 @@ fn without_counts(r: Refusal) -> Report
     ensures { λ t. ⌜ t ≡ reportOf (refusalNumber r) (record { reads = 0; programs = 0; erases = 0; stores = 0 }) ⌝ }
 {
     Report {
-        status: store::refusal_number(r),
+        status: answers::refusal_number(r),
         reads: 0,
         programs: 0,
         erases: 0,

@@ -4,12 +4,13 @@ use native.Mathlib.Nat.{min-eq-left, min-eq-right}
 use native.Mathlib.Omega.{arith}
 use mathlib.Core.Path.{ap, sym}
 use mathlib.Core.Bool.{false≢true}
+use Rattle.stores.specs.Steps.{noCounts}
 use Rattle.stores.specs.Allowance.{started, Sane}
 use Rattle.device.proofs.start.Statement.{statement}
 use Rattle.device.proofs.start.Tie as tie
 
 -- no counter overflows in so many stores
-sane : (n : ℕ) → n ≤ 2 ^ 59 → Sane (started n)
+sane : (n : ℕ) → n ≤ 2 ^ 59 → Sane (started noCounts n)
 sane n h =
     record {
       reads = omega arith;
@@ -20,10 +21,10 @@ sane n h =
     }
 
 returns : tie.Need-returns
-returns c = (ap started (sym (min-eq-left (omega arith))), sane (c .before .args .allowance) (omega arith))
+returns c = (ap (started noCounts) (sym (min-eq-left (omega arith))), sane (c .before .args .allowance) (omega arith))
 
 returns-2 : tie.Need-returns-2
-returns-2 c = (ap started (sym (min-eq-right (omega arith))), sane (2 ^ 59) (omega arith))
+returns-2 c = (ap (started noCounts) (sym (min-eq-right (omega arith))), sane (2 ^ 59) (omega arith))
 
 pub start-spec : {M : Type 1} → statement M
 start-spec = tie.close (tie.spec returns returns-2)

@@ -9,17 +9,18 @@ use Rattle.units.proofs.Looks.{by-test}
 use Rattle.layout.specs.Layout.{Layout}
 use Rattle.layout.specs.Rotation.{stripeOf}
 use Rattle.layout.specs.Images.{Images}
-use Rattle.stores.specs.Steps.{Step, made, isCut, applyAll}
+use Rattle.stores.specs.declared.Counts.{Counts}
+use Rattle.stores.specs.Steps.{Step, noCounts, made, isCut, applyAll}
 use Rattle.stores.proofs.Prefixes.{Every, Closes}
 use Rattle.rules.specs.declared.Check.{Check}
 use Rattle.rules.specs.declared.Check.the-variants.{Passed, Failed}
-use Rattle.rules.specs.Refusals.{openCheck, writeCheck, commitCheck, collectCheck}
+use Rattle.rules.specs.Refusals.{checked, imagesRows, writeRows, commitRows, collectRows}
 use Rattle.rules.specs.Open.{openSteps}
 use Rattle.rules.specs.Collect.{collectSteps}
 use Rattle.rules.specs.Commit.{commitSteps}
 use Rattle.rules.specs.Write.{writeSteps}
-use Rattle.rules.specs.Calls.{run, outcome, openCall, writeCall, commitCall, collectCall}
-use Rattle.rules.specs.Book.{Call, open-call, read-call, write-call, commit-call, collect-call, Book, verdict, booked}
+use Rattle.rules.specs.Calls.{run, outcome, openCall, writeCall, commitCall, collectCall, Call, open-call, write-call, commit-call, collect-call, query-call, verdict, ended}
+use Rattle.rules.specs.Book.{Book, booked}
 use Rattle.rules.specs.Demand.{World, called}
 use Rattle.rules.proofs.Soundness.Statements.{Usable}
 use Rattle.rules.proofs.Soundness.Accepted.{write-accepted, commit-accepted, collect-accepted}
@@ -30,35 +31,35 @@ use Rattle.rules.proofs.Demand.Invariant.{Inv, carries-inv, wrote-inv}
 
 module _ (l : Layout) where
   -- a call whose list carries what the images hold changes nothing that the book knows
-  outcome-inv : (check : Check) (a : ℕ) (steps : Images → List Step) (s : Images) (book : Book) → Inv l s book
-      → (check ≡ Passed → Every l (Carries l s) (steps s) s) → Inv l (outcome l check a steps s .images) book
+  outcome-inv : (check : Check) (n : Counts) (a : ℕ) (steps : Images → List Step) (s : Images) (book : Book) → Inv l s book
+      → (check ≡ Passed → Every l (Carries l s) (steps s) s) → Inv l (outcome l check n a steps s .images) book
   unfolding run
-  outcome-inv Passed a steps s book f h = carries-inv l s (applyAll l (made a (steps s)) s) book (h refl a) f
-  outcome-inv (Failed r) a steps s book f h = f
+  outcome-inv Passed n a steps s book f h = carries-inv l s (applyAll l (made a (steps s)) s) book (h refl a) f
+  outcome-inv (Failed r) n a steps s book f h = f
 
   -- a write changes its page where it is done, and nothing where it is cut or refused
-  write-inv : (L : Step → Type 0) (check : Check) (a lost page : ℕ) (xs : List ℕ) (steps : Images → List Step) (s : Images) (book : Book) → Inv l s book
+  write-inv : (L : Step → Type 0) (check : Check) (n : Counts) (a lost page : ℕ) (xs : List ℕ) (steps : Images → List Step) (s : Images) (book : Book) → Inv l s book
       → (check ≡ Passed → Closes l (Carries l) (Wrote l page xs) L (steps s) s)
-      → Inv l (outcome l check a steps s .images) (booked (write-call lost page xs a) (verdict (outcome l check a steps s .answer)) book)
+      → Inv l (outcome l check n a steps s .images) (booked (write-call lost page xs a) (verdict (outcome l check n a steps s .answer)) book)
   unfolding run booked
-  write-inv L Passed a lost page xs steps s book f h = by-test (isCut a (steps s))
+  write-inv L Passed n a lost page xs steps s book f h = by-test (isCut a (steps s))
       (λ e. rw e (carries-inv l s (applyAll l (made a (steps s)) s) book (h refl .cut a (ltb-true a (length (steps s)) e)) f))
       (λ e.
       rw (e, take-all a (steps s) (ltb-false a (length (steps s)) e))
       (wrote-inv l page xs s (applyAll l (steps s) s) book (h refl .whole) f))
-  write-inv L (Failed r) a lost page xs steps s book f h = f
+  write-inv L (Failed r) n a lost page xs steps s book f h = f
 
   pub call-inv : Usable l → (call : Call) (x : World) → Inv l (x .images) (x .book) → Inv l (called l call x .images) (called l call x .book)
-  unfolding called booked openCall writeCall commitCall collectCall
+  unfolding called ended booked openCall writeCall commitCall collectCall
   call-inv u (open-call lost a) x f =
-      outcome-inv (openCheck l (x .images) lost) a (openSteps l lost) (x .images) (x .book) f (λ passed. open-every l u (x .images) (f .sound) lost)
-  call-inv u (read-call lost page buffer) x f = f
+      outcome-inv (checked (imagesRows l (x .images) lost)) noCounts a (openSteps l lost) (x .images) (x .book) f (λ passed. open-every l u (x .images) (f .sound) lost)
   call-inv u (write-call lost page xs a) x f =
-      write-inv (StoresRecord (stripeOf l page)) (writeCheck l (x .images) lost page xs) a lost page xs (writeSteps l page xs) (x .images) (x .book) f
+      write-inv (StoresRecord (stripeOf l page)) (checked (writeRows l (x .images) lost page xs)) noCounts a lost page xs (writeSteps l page xs) (x .images) (x .book) f
       (λ passed. write-ends l u (x .images) page xs (write-accepted l (x .images) lost page xs passed .1))
   call-inv u (commit-call lost j a) x f =
-      outcome-inv (commitCheck l (x .images) lost j) a (commitSteps l j) (x .images) (x .book) f
+      outcome-inv (checked (commitRows l (x .images) lost j)) noCounts a (commitSteps l j) (x .images) (x .book) f
       (λ passed. commit-every l u (x .images) j (commit-accepted l (x .images) lost j passed .1))
   call-inv u (collect-call lost c a) x f =
-      outcome-inv (collectCheck l (x .images) lost c) a (collectSteps l c) (x .images) (x .book) f
+      outcome-inv (checked (collectRows l (x .images) lost c)) noCounts a (collectSteps l c) (x .images) (x .book) f
       (λ passed. collect-every l u (x .images) c (collect-accepted l (x .images) lost c passed .1))
+  call-inv u (query-call q) x f = f

@@ -7,7 +7,7 @@ use lib.ListN.{length}
 use Rattle.layout.specs.Layout.{Layout, noChip, chipBytes}
 use Rattle.layout.specs.Images.{Images}
 use Rattle.layout.proofs.Limits.{within}
-use Rattle.rules.specs.Book.{Call, lostChip}
+use Rattle.rules.specs.Calls.{Call, lostChip}
 use Rattle.rules.specs.Demand.{World, called, calledAll, chipTaken, allName, ReadsTheBook, Finished, start, Demand3}
 use Rattle.rules.proofs.Soundness.Statements.{Usable}
 use Rattle.rules.proofs.Lists.Fresh.{format-fresh}

@@ -15,16 +15,17 @@ use Rattle.units.proofs.Tests.{or-right}
 use Rattle.layout.specs.Layout.{Layout, noChip, pages, pageBytes, chipBytes}
 use Rattle.layout.specs.Page.{Page, pageOf, pageAt}
 use Rattle.layout.specs.Images.{Images, chipsLength}
+use Rattle.stores.specs.Steps.{noCounts}
 use Rattle.stores.proofs.Prefixes.{every-nil}
 use Rattle.rules.specs.declared.Check.{Check}
 use Rattle.rules.specs.declared.Check.the-variants.{Passed, Failed}
-use Rattle.rules.specs.Refusals.{lostNamed, openCheck}
+use Rattle.rules.specs.Refusals.{lostNamed, checked, imagesRows, writeRows, commitRows, collectRows}
 use Rattle.rules.specs.Open.{openSteps}
-use Rattle.rules.specs.Calls.{run, outcome, openCall, writeCall, commitCall, collectCall}
-use Rattle.rules.specs.Book.{Call, open-call, read-call, write-call, commit-call, collect-call, lostChip, booked}
+use Rattle.rules.specs.Calls.{run, outcome, openCall, writeCall, commitCall, collectCall, Call, open-call, write-call, commit-call, collect-call, query-call, lostChip, ended}
+use Rattle.rules.specs.Book.{booked}
 use Rattle.rules.specs.Demand.{World, called, chipTaken, ReadsTheBook}
 use Rattle.rules.proofs.Soundness.Statements.{Usable, SoundBut, sound-but}
-use Rattle.rules.proofs.Soundness.Accepted.{lost-refused-write, lost-refused-commit, lost-refused-collect}
+use Rattle.rules.proofs.Soundness.Accepted.{write-accepted, commit-accepted, collect-accepted, lost-refused}
 use Rattle.rules.proofs.Data.Rebuild.{fetch-elsewhere}
 use Rattle.rules.proofs.Lists.EachCall.{open-lost}
 use Rattle.rules.proofs.Demand.Invariant.{Inv, reads-book}
@@ -90,19 +91,19 @@ module _ (l : Layout) where
         (λ i. fetch-elsewhere l s (x .images) c i (k .records) (k .slots) (k .others))
 
     -- a call that names it changes nothing
-    open-stays : (t : Images) (a : ℕ) (check : Check) → outcome l check a (openSteps l c) t .images ≡ t
+    open-stays : (t : Images) (a : ℕ) (check : Check) → outcome l check noCounts a (openSteps l c) t .images ≡ t
     unfolding run
     open-stays t a Passed = rw (open-lost l t c not-none) (every-nil l (λ v. v ≡ t) t refl a)
     open-stays t a (Failed r) = refl
 
     -- of every kind of call
     pub call-stays : (call : Call) → lostChip call ≡ c → (x : World) → (called l call x .images ≡ x .images) × (called l call x .book ≡ x .book)
-    unfolding called booked openCall writeCall commitCall collectCall
-    call-stays (open-call lost a) e x = (rw e (open-stays (x .images) a (openCheck l (x .images) c)), refl)
-    call-stays (read-call lost page buffer) e x = (refl, refl)
+    unfolding called ended booked openCall writeCall commitCall collectCall
+    call-stays (open-call lost a) e x = (rw e (open-stays (x .images) a (checked (imagesRows l (x .images) c))), refl)
     call-stays (write-call lost page xs a) e x =
-        let (r, refused) = lost-refused-write l (x .images) c page xs not-none in rw (e, refused) (refl, refl)
+        let (r, refused) = lost-refused c (writeRows l (x .images) c page xs) not-none (λ h. write-accepted l (x .images) c page xs h .0) in rw (e, refused) (refl, refl)
     call-stays (commit-call lost j a) e x =
-        let (r, refused) = lost-refused-commit l (x .images) c j not-none in rw (e, refused) (refl, refl)
+        let (r, refused) = lost-refused c (commitRows l (x .images) c j) not-none (λ h. commit-accepted l (x .images) c j h .0) in rw (e, refused) (refl, refl)
     call-stays (collect-call lost d a) e x =
-        let (r, refused) = lost-refused-collect l (x .images) c d not-none in rw (e, refused) (refl, refl)
+        let (r, refused) = lost-refused c (collectRows l (x .images) c d) not-none (λ h. collect-accepted l (x .images) c d h .0) in rw (e, refused) (refl, refl)
+    call-stays (query-call q) e x = (refl, refl)

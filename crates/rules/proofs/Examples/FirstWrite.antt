@@ -27,8 +27,7 @@ use Rattle.rules.specs.declared.Reading.the-variants.{Done as ReadDone}
 use Rattle.rules.specs.Write.{lowestFreeSlot, freeSlot, commitOwed, owedSteps, dataPage, newPartial, newPartialReads, written, slotSteps, writeAt, writeMember, writeSteps}
 use Rattle.rules.specs.Read.{fetchMember, fetch}
 use Rattle.rules.specs.declared.Answer.the-variants.{Done, Cut}
-use Rattle.rules.specs.Calls.{ReadOutcome, run, formatCall, writeCall, readCall}
-use Rattle.rules.specs.Book.{verdict, done}
+use Rattle.rules.specs.Calls.{ReadOutcome, verdict, done, run, formatCall, writeCall, readCall}
 use Rattle.rules.proofs.Soundness.Statements.{Usable, Sound}
 use Rattle.rules.proofs.Soundness.Accepted.{WriteAccepted, write-passes, read-passes}
 use Rattle.rules.proofs.Space.Places.{place-fresh}
@@ -132,7 +131,7 @@ module _ (l : Layout) (u : Usable l) (s : Images) (f : Fresh l s) where
         whole = whole;
       }
 
-      ran : (allowance : ℕ) → writeCall l s noChip i xs allowance ≡ run l allowance (writeSteps l i xs s) s
+      ran : (allowance : ℕ) → writeCall l s noChip i xs allowance ≡ run l noCounts allowance (writeSteps l i xs s) s
       unfolding writeCall
       ran allowance = rw (write-passes l s i xs accepted)
 

@@ -1,29 +1,17 @@
--- The worked examples of document 01 on costs and on the first write, and its bench transcript.
+-- The first write and the transcript of document 01, at the geometry of its bench program.
 use Prim.Native.Nat.{ℕ, _<_}
 use mathlib.Core.Path.{_≡_, refl}
 use mathlib.Core.List.{List, [], _∷_}
 use lib.ListN.{replicate, length, getD}
 use lib.Dec.{lit≤}
-use Rattle.units.specs.Rows.{Rows}
 use Rattle.units.proofs.Tests.{same-rows}
 use Rattle.layout.specs.Layout.{Layout}
 use Rattle.layout.specs.Images.{Images}
 use Rattle.layout.proofs.Rows.{geometry}
 use Rattle.stores.specs.declared.Counts.{Counts}
-use Rattle.rules.specs.Commit.{costOf}
 use Rattle.rules.specs.Calls.{Outcome, ReadOutcome, statusOf, countsOf, readStatusOf, readCountsOf, formatCall, writeCall, readCall}
 use Rattle.rules.proofs.Examples.Compute.{computes}
 use Rattle.rules.proofs.Examples.FirstWrite.{FirstWrite, first-write}
-
--- "cost at N = 4 for p = 1 to 4: 2, 2, 1, 0"
-pub costs-at-four : Rows (costOf (geometry 4 16 4 4 6 2)) ((1, 2) ∷ (2, 2) ∷ (3, 1) ∷ (4, 0) ∷ [])
-unfolding costOf
-costs-at-four = (refl, (refl, (refl, (refl, tt))))
-
--- "N = 5, p = 1 to 5: 2, 3, 2, 1, 0"
-pub costs-at-five : Rows (costOf (geometry 5 16 4 4 6 2)) ((1, 2) ∷ (2, 3) ∷ (3, 2) ∷ (4, 1) ∷ (5, 0) ∷ [])
-unfolding costOf
-costs-at-five = (refl, (refl, (refl, (refl, (refl, tt)))))
 
 -- the geometry of the bench program
 abbrev pub bench : Layout

@@ -1,19 +1,16 @@
--- A geometry outside the limits turns every call back with refusal 1, and one inside them is accepted.
+-- A geometry outside the limits turns every call back with refusal 1.
 use Prim.Native.Nat.{ℕ}
-use mathlib.Core.Path.{_≡_, refl}
-use mathlib.Core.Bool.{true, false}
+use mathlib.Core.Path.{_≡_}
+use mathlib.Core.Bool.{false}
 use mathlib.Core.List.{List}
 use Rattle.layout.specs.Layout.{Layout, limits}
-use Rattle.layout.specs.Images.{Images, lengths}
-use Rattle.layout.proofs.Rows.{geometry, accepted as within-limits}
+use Rattle.layout.specs.Images.{Images}
 use Rattle.rules.specs.declared.Refusal.{Refusal}
 use Rattle.rules.specs.declared.Refusal.the-variants.{Geometry}
-use Rattle.rules.specs.declared.Check.the-variants.{Passed}
 use Rattle.rules.specs.declared.Answer.the-variants.{Refused}
 use Rattle.rules.specs.declared.Reading.the-variants.{Refused as ReadRefused}
-use Rattle.rules.specs.Refusals.{refusalNumber, buffersCheck, formatCheck, imagesCheck, openCheck, readCheck, settledCheck, writeCheck, commitCheck, collectCheck}
+use Rattle.rules.specs.Refusals.{buffersRows, imagesRows, readRows, settledRows, writeRows, commitRows, collectRows}
 use Rattle.rules.specs.Calls.{formatCall, openCall, readCall, writeCall, commitCall, collectCall}
-use Rattle.rules.proofs.Soundness.Accepted.{format-passes}
 
 module _ (l : Layout) where
   -- every call is refused with r, and changes nothing
@@ -26,7 +23,7 @@ module _ (l : Layout) where
     pub collect : (s : Images) (lost c a : ℕ) → collectCall l s lost c a ≡ record { answer = Refused r; images = s }
 
   pub outside-limits : limits l ≡ false → TurnedBack Geometry
-  unfolding formatCall openCall readCall writeCall commitCall collectCall formatCheck buffersCheck imagesCheck openCheck readCheck settledCheck writeCheck commitCheck collectCheck
+  unfolding formatCall openCall readCall writeCall commitCall collectCall buffersRows imagesRows readRows settledRows writeRows commitRows collectRows
   outside-limits e = record {
     format = λ s a. rw e;
     open-call = λ s lost a. rw e;
@@ -35,17 +32,3 @@ module _ (l : Layout) where
     commit = λ s lost j a. rw e;
     collect = λ s lost c a. rw e;
   }
-
--- "512 × 128 is refusal 1", "10 is refusal 1"
-pub too-many-pages : (refusalNumber Geometry ≡ 1) × TurnedBack (geometry 4 16 128 512 9 2) Geometry
-too-many-pages = (refl, outside-limits (geometry 4 16 128 512 9 2) (within-limits .1 .0))
-
-pub too-many-stripes : TurnedBack (geometry 4 16 4 4 10 2) Geometry
-too-many-stripes = outside-limits (geometry 4 16 4 4 10 2) (within-limits .1 .1 .1 .0)
-
--- "771 × 85 pages accepted", "S = 9 accepted"
-pub most-pages : (s : Images) → lengths (geometry 4 16 85 771 9 2) s ≡ true → formatCheck (geometry 4 16 85 771 9 2) s ≡ Passed
-most-pages s = format-passes (geometry 4 16 85 771 9 2) s (within-limits .0)
-
-pub most-stripes : (s : Images) → lengths (geometry 4 16 4 4 9 2) s ≡ true → formatCheck (geometry 4 16 4 4 9 2) s ≡ Passed
-most-stripes s = format-passes (geometry 4 16 4 4 9 2) s (within-limits .1 .1 .0)

@@ -11,6 +11,7 @@ use borrow.Author.Tests.{le-ltb}
 use Rattle.units.proofs.Looks.{by-order}
 use Rattle.layout.specs.Layout.{Layout}
 use Rattle.layout.specs.Images.{Images}
+use Rattle.stores.specs.declared.Counts.{Counts}
 use Rattle.stores.specs.declared.Progress.{Progress}
 use Rattle.stores.specs.Steps.{Step, made, isCut}
 use Rattle.stores.specs.Allowance.{started, after, applied, Ran}
@@ -32,7 +33,7 @@ module _ (a most : ℕ) (xs : List Step) (short : length xs ≤ most) where
       by-order a most (λ h. rw (min-eq-left (le-of-lt h))) (λ h. rw (min-eq-right h, le-ltb most (length xs) short, le-ltb a (length xs) (omega arith)))
 
 -- what the code answers, having run the list under the allowance or as much of it as any list needs
-pub ran-outcome : (l : Layout) (a most : ℕ) (xs : List Step) (r : Progress) (s t : Images) → length xs ≤ most → Ran l (started (min a most)) xs r s t
-    → _≡_ {A = Outcome} (record { answer = answerOf r; images = t }) (run l a xs s)
+pub ran-outcome : (l : Layout) (n : Counts) (a most : ℕ) (xs : List Step) (r : Progress) (s t : Images) → length xs ≤ most → Ran l (started n (min a most)) xs r s t
+    → _≡_ {A = Outcome} (record { answer = answerOf r; images = t }) (run l n a xs s)
 unfolding run after applied
-ran-outcome l a most xs r s t short h = rw (h .progress, h .images, made-enough a most xs short, cut-enough a most xs short)
+ran-outcome l n a most xs r s t short h = rw (h .progress, h .images, made-enough a most xs short, cut-enough a most xs short)

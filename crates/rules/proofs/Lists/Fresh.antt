@@ -23,12 +23,12 @@ use Rattle.stores.specs.Store.{apply, collection}
 use Rattle.stores.specs.Steps.{plain, applyAll, stepsBelow}
 use Rattle.stores.proofs.Runs.{apply-append, below-carries}
 use Rattle.stores.proofs.View.{erasedPage, wiped, page-erased, length-erased, length-recorded, record-stored, collection-stored, records-stay}
-use Rattle.rules.specs.Refusals.{formatCheck}
-use Rattle.rules.specs.Calls.{Outcome, formatCall}
-use Rattle.rules.specs.Book.{verdict, done}
+use Rattle.rules.specs.Refusals.{checked, buffersRows}
+use Rattle.rules.specs.Calls.{Outcome, formatCall, verdict, done}
 use Rattle.rules.specs.Format.{eraseBlock, eraseChip, emptyStripe, formatSteps}
 use Rattle.rules.proofs.Soundness.Checks.{lengths-are}
-use Rattle.rules.proofs.Soundness.Accepted.{by-check, format-accepted, format-passes}
+use Rattle.rules.proofs.Soundness.Table.{by-check}
+use Rattle.rules.proofs.Soundness.Accepted.{buffers-accepted, buffers-pass}
 use Rattle.rules.proofs.Lists.CutRule.{verdictNumber, cut-rules}
 
 module _ (l : Layout) where
@@ -165,11 +165,11 @@ format-done : (l : Layout) (s : Images) (a : ℕ) → verdict (formatCall l s a 
     → (limits l ≡ true) × (lengths l s ≡ true) × (formatCall l s a .images ≡ applyAll l (formatSteps l) s)
 format-done l s a e =
     let rule = cut-rules l .format s a in
-    by-check (formatCheck l s)
+    by-check (checked (buffersRows l s))
     (λ passed. by-order a (length (formatSteps l))
     (λ less. absurd (omega (arith, ap verdictNumber (rw (rule .cutting passed less) at e))))
     (λ more.
-    let (fit, long) = format-accepted l s passed in
+    let (fit, long) = buffers-accepted l s passed in
     (fit, long, ap (λ (o : Outcome). o .images) (rule .finishing passed more))))
     (λ r failed. absurd (omega (arith, ap verdictNumber (rw (rule .refusing r failed) at e))))
 
@@ -185,4 +185,4 @@ format-fresh l some narrow s allowance e =
 pub format-finishes : (l : Layout) (s : Images) (a : ℕ) → limits l ≡ true → lengths l s ≡ true → length (formatSteps l) ≤ a
     → verdict (formatCall l s a .answer) ≡ done
 format-finishes l s a fit long enough =
-    rw (cut-rules l .format s a .finishing (format-passes l s fit long) enough)
+    rw (cut-rules l .format s a .finishing (buffers-pass l s fit long) enough)

@@ -1,7 +1,8 @@
--- Where there is a place nothing is said; else it is what the scan of the chip has found.
-use mathlib.Core.Path.{sym, _∙_}
+-- None where there is a place; else what the scan of the chip has found.
+use mathlib.Core.Path.{_∙_}
 use borrow.Author.Needs.{needs}
-use Rattle.units.proofs.Looks.{not-found}
+use Rattle.units.specs.Look.{whenFound}
+use Rattle.space.specs.Victims.{victimWanted}
 use Rattle.space.proofs.Victims.{victim-found}
 use Rattle.space.proofs.victim_on.Statement.{statement}
 use Rattle.space.proofs.victim_on.Tie as tie
@@ -13,7 +14,8 @@ enum-told : tie.Need-enum-told
 enum-told c = search needs
 
 returns : tie.Need-returns
-returns c = record { is = λ e. not-found _ (sym e ∙ sym (c .before .before .place-on .ensures) ∙ c .enum-told .given .1) }
+unfolding victimWanted whenFound
+returns c = rw (← c .before .before .place-on .ensures, c .enum-told .given .1)
 
 enum-told-2 : tie.Need-enum-told-2
 enum-told-2 c = search needs
@@ -25,9 +27,11 @@ victim-in-requires : tie.Need-victim-in-requires
 victim-in-requires c κs = search needs
 
 returns-2 : tie.Need-returns-2
+unfolding victimWanted whenFound
 returns-2 c =
     let s = c .before .before .before .before .before .before .before in
-    record { is = λ _. c .victim-in .ensures ∙ victim-found (s .pre .1) (c .before .scan-chip .ensures) }
+    rw (← c .before .before .before .before .place-on .ensures, c .before .before .enum-told2 .given .1)
+    (c .victim-in .ensures ∙ victim-found (s .pre .1) (c .before .scan-chip .ensures))
 
 pub victim-on-spec : {M : Type 1} → statement M
 victim-on-spec =

@@ -6,15 +6,14 @@ use borrow.Author.Needs.{needs}
 use Rattle.layout.specs.Layout.{layoutOf}
 use Rattle.layout.specs.Page.{pageAt}
 use Rattle.layout.specs.Record.{recordAt}
-use Rattle.spares.specs.Scans.{AllScanned}
-use Rattle.layout.proofs.Limits.{within}
+use Rattle.spares.specs.Scans.{chipScans}
 use Rattle.spares.proofs.Scanning.{all-start}
 use Rattle.spares.proofs.scan_all.Statement.{statement}
 use Rattle.spares.proofs.scan_all.Tie as tie
 
 abbrev Inv-loop : tie.InvT-loop
 Inv-loop chips records g lost blocks scans₀ b₀ scans b =
-    let l = layoutOf g in (b ≤ g .b) × AllScanned l (recordAt l records) (pageAt l chips) lost b scans
+    let l = layoutOf g in (b ≤ g .b) × (scans ≡ chipScans l (recordAt l records) (pageAt l chips) lost b)
 
 abbrev μ-loop : tie.MeasureT-loop
 μ-loop chips records g lost blocks scans₀ b₀ scans b = g .b - b
@@ -23,9 +22,7 @@ no-block-requires : tie.Need-no-block-requires Inv-loop μ-loop
 no-block-requires c κs = search needs
 
 loop-holds : tie.Need-loop-holds Inv-loop μ-loop
-loop-holds c =
-    let s = c .before .before .before in
-    (omega arith, all-start (within (layoutOf (s .args .g)) (s .pre .0 .limited) .members-high) (λ i. c .no-block .ensures _ _ i))
+loop-holds c = (omega arith, all-start _ _ _ _ (λ i. c .no-block .ensures _ _ i))
 
 with-row-requires : tie.Need-with-row-requires Inv-loop μ-loop
 with-row-requires c κs = let h = c .before .before .before .before .before .pre in (h .0, h .1, c .loop-test .taken, c .before .loop .inv .1)

@@ -6,13 +6,13 @@ use borrow.Author.Needs.{needs}
 use Rattle.layout.specs.Layout.{layoutOf}
 use Rattle.layout.specs.Page.{pageAt}
 use Rattle.layout.specs.Record.{recordAt}
-use Rattle.spares.specs.Scans.{Scanned}
+use Rattle.spares.specs.Scans.{chipScan}
 use Rattle.spares.proofs.scan_chip.Statement.{statement}
 use Rattle.spares.proofs.scan_chip.Tie as tie
 
 abbrev Inv-loop : tie.InvT-loop
 Inv-loop chips records g c blocks scan₀ b₀ scan b =
-    let l = layoutOf g in (b ≤ g .b) × Scanned l (recordAt l records) (pageAt l chips c) c b scan
+    let l = layoutOf g in (b ≤ g .b) × (scan ≡ chipScan l (recordAt l records) (pageAt l chips c) c b)
 
 abbrev μ-loop : tie.MeasureT-loop
 μ-loop chips records g c blocks scan₀ b₀ scan b = g .b - b

@@ -16,7 +16,7 @@ use Rattle.layout.proofs.Limits.{within}
 use Rattle.rules.specs.Sound.{sparesSound}
 use Rattle.spares.specs.Scans.{phaseSound}
 use Rattle.names.proofs.Totals.{namesKept, names-le}
-use Rattle.spares.proofs.Scanning.{start-low}
+use Rattle.spares.proofs.Scanning.{start-low, scans-at}
 use Rattle.spares.proofs.Judging.{Judged, judge-start, judge-more, judge-lost, judge-few, statements, verdict, tags-pass}
 use Rattle.spares.proofs.spares_pass.Statement.{statement}
 use Rattle.spares.proofs.spares_pass.Tie as tie
@@ -99,7 +99,7 @@ add-named c =
     let a = s .args in
     let l = layoutOf (a .g) in
     let pages = start-low (a .g) (s .pre .0 .limited) (a .g .b) (omega arith) in
-    let more = judge-more (o .inv .1) (c .before .before .if2 .taken) (s .pre .4 .at (o .c) (c .before .before .before .loop-test .taken) (c .before .before .if2 .taken)) in
+    let more = judge-more (o .inv .1) (c .before .before .if2 .taken) (scans-at _ _ _ _ _ (s .pre .4) (within (layoutOf (s .args .g)) (s .pre .0 .limited) .members-high) (o .c) (c .before .before .before .loop-test .taken) (c .before .before .if2 .taken)) in
     let few = judge-few l (recordAt l (a .records .now)) (pageAt l (a .chips .now)) (a .lost) pages (o .c + 1) in
     omega (arith, more .names, within l (s .pre .0 .limited) .members-high)
 
@@ -117,7 +117,7 @@ loop-again c =
     let s = c .before .before .before .before .before .before .before .before in (
       omega arith,
       ⊎-elim
-          (λ w. rw (w .6, w .7, s .pre .2 .phase, s .pre .2 .chip) (judge-more (o .inv .1) (w .0 .taken) (s .pre .4 .at (o .c) (c .before .loop-test .taken) (w .0 .taken))))
+          (λ w. rw (w .6, w .7, s .pre .2 .phase, s .pre .2 .chip) (judge-more (o .inv .1) (w .0 .taken) (scans-at _ _ _ _ _ (s .pre .4) (within (layoutOf (s .args .g)) (s .pre .0 .limited) .members-high) (o .c) (c .before .loop-test .taken) (w .0 .taken))))
           (λ w. rw (w .1, w .2) (judge-lost (o .inv .1) (w .0 .left)))
           (c .if2 .came),
     )

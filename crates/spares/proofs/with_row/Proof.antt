@@ -1,13 +1,12 @@
 -- The loop's invariant: the chips below c have block b, the others not yet.
 use Prim.Native.Nat.{_+_, _-_, _≤_, _<_}
-use native.Mathlib.Nat.{le-refl}
 use native.Mathlib.Omega.{arith}
 use mathlib.Core.Logic.{⊎-elim}
 use Rattle.layout.specs.Layout.{layoutOf}
 use Rattle.layout.specs.Page.{pageAt}
 use Rattle.layout.specs.Record.{recordAt}
 use Rattle.layout.proofs.Limits.{within}
-use Rattle.spares.proofs.Scanning.{Row, row-start, row-more, row-lost, row-all}
+use Rattle.spares.proofs.Scanning.{Row, row-start, row-next, row-more, row-lost, row-all}
 use Rattle.spares.proofs.with_row.Statement.{statement}
 use Rattle.spares.proofs.with_row.Tie as tie
 
@@ -25,7 +24,7 @@ seven c =
     omega (arith, within (layoutOf (s .args .g)) (s .pre .0 .limited) .members-high)
 
 loop-holds : tie.Need-loop-holds Inv-loop μ-loop
-loop-holds c = (omega arith, row-start (c .before .before .pre .3))
+loop-holds c = (omega arith, row-start _ _ _ _ _ (c .before .before .pre .3))
 
 mul-with-block : tie.Need-mul-with-block Inv-loop μ-loop
 mul-with-block c = omega (arith, seven (c .before))
@@ -38,7 +37,7 @@ with-block-requires c κs =
     let h = c .before .before .before .before .before .before .pre in
     let o = c .before .before .before .loop in
     let low = c .before .before .loop-test .taken in
-    (h .0, h .1, low, h .2, o .inv .1 .due (o .c) (le-refl (o .c)) low (c .before .if1 .taken))
+    (h .0, h .1, low, h .2, row-next (o .inv .1) (seven (c .before .before)) low (c .before .if1 .taken))
 
 mul-next : tie.Need-mul-next Inv-loop μ-loop
 mul-next c = omega (arith, seven (c .before .before .before))
@@ -57,8 +56,8 @@ loop-again c =
     let o = c .before .before .loop in (
       omega arith,
       ⊎-elim
-          (λ w. rw (w .3) (row-more (o .inv .1) (seven (c .before)) (w .2 .ensures)))
-          (λ w. rw (w .1) (row-lost (o .inv .1) (w .0 .left)))
+          (λ w. rw (w .3) (row-more (o .inv .1) (seven (c .before)) (c .before .loop-test .taken) (w .0 .taken) (w .2 .ensures)))
+          (λ w. rw (w .1) (row-lost (o .inv .1) (seven (c .before)) (w .0 .left)))
           (c .if1 .came),
     )
 

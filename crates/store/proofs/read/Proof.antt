@@ -1,74 +1,56 @@
--- Refused by rows 1 to 5, by the page or by the buffer; else what `fetch` brings.
-use native.Mathlib.Nat.{mul-le-mul}
-use native.Mathlib.Omega.{arith}
-use mathlib.Core.Path.{refl, sym, _∙_}
-use mathlib.Core.Bool.{true, false}
+-- Refused by its rows, or what `fetch` brings.
+use mathlib.Core.Path.{_≡_, sym, _∙_}
 use borrow.Author.Needs.{needs}
-use borrow.Author.Tests.{lt-ltb, le-ltb, ne-eqb}
+use native.Mathlib.Omega.{arith}
+use denote.Ref.{now}
+use Rattle.layout.specs.declared.Geometry.{Geometry}
 use Rattle.layout.specs.Layout.{layoutOf}
-use Rattle.layout.proofs.Rotations.{stripe-fits, member-fits}
-use Rattle.store.proofs.Results.{images-fit, read-first, read-next, read-done}
+use Rattle.rules.specs.declared.Check.the-variants.{Passed}
+use Rattle.rules.specs.Refusals.{checked, readRows}
+use Rattle.stores.specs.Allowance.{images}
+use Rattle.store.proofs.Results.{ReadReady, read-told, read-ready, read-refused, read-done}
 use Rattle.store.proofs.read.Statement.{statement}
 use Rattle.store.proofs.read.Tie as tie
 
-images-look-requires : tie.Need-images-look-requires
-images-look-requires c κs = search needs
+told : (c : tie.After-page-check) → let a = c .before .before .before .before .before .before .args in
+    c .page-check .result ≡ checked (readRows (layoutOf (a .g)) (images (now (a .chips)) (now (a .records)) (now (a .slots))) (a .lost) (a .page) (now (a .buffer)))
+told c = read-told _ _ _ _ _ (c .before .images-look .ensures) (c .page-check .ensures)
 
-enum-known-check : tie.Need-enum-known-check
-enum-known-check c = search needs
+passed : (c : tie.After-enum-told) → let a = c .before .before .before .before .before .before .before .before .args in
+    checked (readRows (layoutOf (a .g)) (images (now (a .chips)) (now (a .records)) (now (a .slots))) (a .lost) (a .page) (now (a .buffer))) ≡ Passed
+passed c = sym (told (c .before .before)) ∙ c .enum-told .given .1
+
+ready : (c : tie.After-enum-told) → let a = c .before .before .before .before .before .before .before .before .args in ReadReady (a .g) (images (now (a .chips)) (now (a .records)) (now (a .slots))) (a .page) (now (a .buffer))
+ready c = let a = c .before .before .before .before .before .before .before .before .args in read-ready (a .g) _ (a .lost) _ _ (passed c)
 
 returns : tie.Need-returns
-returns c =
-    read-first _ _ _ _ _ (c .before .check .given .0 .0) (sym (c .before .before .before .images-look .ensures .0) ∙ c .before .check .given .1)
-
-enum-told : tie.Need-enum-told
-enum-told c = search needs
-
-mul-if1 : tie.Need-mul-if1
-mul-if1 c =
-    let w = images-fit (c .before .before .before .before .before .before .before .before .args .g) _ _ (sym (c .before .before .before .images-look .ensures .0) ∙ c .before .enum-told .given .1) .within-limits in
-    let most = mul-le-mul (w .members-high) (w .stripes-high) in
-    omega arith
-
-returns-2 : tie.Need-returns-2
-returns-2 c = read-next _ _ _ _ _ false _ (sym (c .before .before .before .before .images-look .ensures .0) ∙ c .before .before .enum-told .given .1) (le-ltb _ _ (c .if1 .taken)) refl
-
-returns-3 : tie.Need-returns-3
-returns-3 c = read-next _ _ _ _ _ true false (sym (c .before .before .before .before .before .images-look .ensures .0) ∙ c .before .before .before .enum-told .given .1) (lt-ltb _ _ (c .before .if1 .left)) (ne-eqb _ _ (c .if2 .taken))
+returns c = read-refused _ _ _ _ _ (c .before .check .given .0 .0) (sym (told (c .before .before .before)) ∙ c .before .check .given .1)
 
 div-j : tie.Need-div-j
-div-j c = let w = images-fit (c .before .before .before .before .before .before .before .before .before .before .before .args .g) _ _ (sym (c .before .before .before .before .before .before .images-look .ensures .0) ∙ c .before .before .before .before .enum-told .given .1) .within-limits in omega (arith, w .members-low)
+div-j c = omega (arith, ready (c .before) .fit .within-limits .members-low)
 
 rem-m : tie.Need-rem-m
-rem-m c = let w = images-fit (c .before .before .before .before .before .before .before .before .before .before .before .before .args .g) _ _ (sym (c .before .before .before .before .before .before .before .images-look .ensures .0) ∙ c .before .before .before .before .before .enum-told .given .1) .within-limits in omega (arith, w .members-low)
+rem-m c = omega (arith, ready (c .before .before) .fit .within-limits .members-low)
 
 fetch-requires : tie.Need-fetch-requires
 fetch-requires c κs =
-    let l = layoutOf (c .before .before .before .before .before .before .before .before .before .before .before .before .before .args .g) in
-    let h = images-fit (c .before .before .before .before .before .before .before .before .before .before .before .before .before .args .g) _ _ (sym (c .before .before .before .before .before .before .before .before .images-look .ensures .0) ∙ c .before .before .before .before .before .before .enum-told .given .1) in
-    let w = h .within-limits in
-    let low = stripe-fits l w (c .before .before .before .before .before .before .before .before .before .before .before .before .before .args .page) (c .before .before .before .before .if1 .left) in
-    (h .fit .chips, h .fit .records, h .fit .slots, c .before .before .before .if2 .left, low, member-fits l w (c .before .before .before .before .before .before .before .before .before .before .before .before .before .args .page), h .stripe _ low)
+    let h = ready (c .before .before .before) in
+    (h .fit .fit .chips, h .fit .fit .records, h .fit .fit .slots, h .whole, h .stripe, h .member, h .fit .stripe _ (h .stripe))
 
-same-length : tie.Need-same-length
-same-length c = search needs
-
-returns-4 : tie.Need-returns-4
-returns-4 c = read-done _ _ _ _ _ _ _ (sym (c .before .before .before .before .before .before .before .before .before .before .before .images-look .ensures .0) ∙ c .before .before .before .before .before .before .before .before .before .enum-told .given .1) (c .before .before .before .before .before .before .before .if1 .left) (c .before .before .before .before .before .before .if2 .left) (c .before .before .fetch .ensures)
+returns-2 : tie.Need-returns-2
+returns-2 c = read-done _ _ _ _ _ (passed (c .before .before .before .before .before .before)) (c .before .before .fetch .ensures)
 
 pub read-spec : {M : Type 1} → statement M
 read-spec =
     tie.close
     (tie.spec
-    images-look-requires
-    enum-known-check
+    (λ c κs. search needs)
+    (λ c κs. search needs)
+    (λ c. search needs)
     returns
-    enum-told
-    mul-if1
-    returns-2
-    returns-3
+    (λ c. search needs)
     div-j
     rem-m
     fetch-requires
-    same-length
-    returns-4)
+    (λ c. search needs)
+    returns-2)

@@ -11,6 +11,7 @@ use Rattle.stores.proofs.Allowances.{ran-none, ran-then, ran-then-cut}
 use Rattle.rules.specs.Place.{placed}
 use Rattle.rules.specs.Write.{owedSteps, writeAt, writeMember}
 use Rattle.names.proofs.Statements.{tags-pass}
+use Rattle.space.proofs.Victims.{victim-wanted}
 use Rattle.collect.proofs.Rooms.{ordered}
 use Rattle.updates.proofs.Placing.{seven, known-victim, owed-not, owed-settled}
 use Rattle.updates.proofs.write_member.Statement.{statement}
@@ -94,7 +95,7 @@ place-member-requires-2 c κs =
     let s = c .before .before .before .before .before .before .before .before .before .before .before .before .before .before .before .before .before .before .before .before .before .before .before in
     let owed = c .before .before .before .before .before .before .before .before .before .before .before .commit-owed in
     let h = owed-settled (s .pre .0) (s .pre .1) (s .args .j) (owed .ensures) (c .before .before .before .before .before .before .if2 .left) in
-    (h, s .pre .1, s .pre .2, s .pre .3, s .pre .4, owed .ensures .sane, rw (← c .before .before .before .before .before .before .before .before .before .before .before .before .before .before .before .before .before .before .member-chip .ensures .0) (c .before .before .before .victim-on .ensures))
+    (h, s .pre .1, s .pre .2, s .pre .3, s .pre .4, owed .ensures .sane, rw (← c .before .before .before .before .before .before .before .before .before .before .before .before .before .before .before .before .before .before .member-chip .ensures .0) (victim-wanted (c .before .before .before .victim-on .ensures)))
 
 same-length-7 : tie.Need-same-length-7
 same-length-7 c = search needs

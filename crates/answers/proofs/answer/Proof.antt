@@ -1,6 +1,6 @@
 -- By whether the call is cut.
-use Rattle.store.proofs.answer.Statement.{statement}
-use Rattle.store.proofs.answer.Tie as tie
+use Rattle.answers.proofs.answer.Statement.{statement}
+use Rattle.answers.proofs.answer.Tie as tie
 
 returns : tie.Need-returns
 returns c = rw (c .if1 .taken)

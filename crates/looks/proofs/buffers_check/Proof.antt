@@ -1,26 +1,26 @@
 -- Each return is the check once the tests before it are settled.
 use borrow.Author.Needs.{needs}
-use Rattle.rules.specs.Refusals.{buffersCheck}
-use Rattle.store.proofs.Results.{passed, failed}
-use Rattle.store.proofs.buffers_check.Statement.{statement}
-use Rattle.store.proofs.buffers_check.Tie as tie
+use Rattle.rules.specs.Refusals.{buffersRows}
+use Rattle.looks.proofs.Passing.{passed, failed}
+use Rattle.looks.proofs.buffers_check.Statement.{statement}
+use Rattle.looks.proofs.buffers_check.Tie as tie
 
 geometry-passes-requires : tie.Need-geometry-passes-requires
 geometry-passes-requires c κs = search needs
 
 returns : tie.Need-returns
-unfolding buffersCheck
+unfolding buffersRows
 returns c = rw (failed (c .before .geometry-passes .ensures) (c .if1 .taken))
 
 lengths-pass-requires : tie.Need-lengths-pass-requires
 lengths-pass-requires c κs = passed (c .before .geometry-passes .ensures) (c .if1 .left)
 
 returns-2 : tie.Need-returns-2
-unfolding buffersCheck
+unfolding buffersRows
 returns-2 c = rw (passed (c .before .before .before .geometry-passes .ensures) (c .before .before .if1 .left), failed (c .before .lengths-pass .ensures) (c .if2 .taken))
 
 returns-3 : tie.Need-returns-3
-unfolding buffersCheck
+unfolding buffersRows
 returns-3 c = rw (passed (c .before .before .before .geometry-passes .ensures) (c .before .before .if1 .left), passed (c .before .lengths-pass .ensures) (c .if2 .left))
 
 pub buffers-check-spec : {M : Type 1} → statement M

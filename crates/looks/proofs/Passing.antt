@@ -1,0 +1,192 @@
+-- What the rows about the images come to, test by test, and what a call may rely on once they have passed.
+use Prim.Native.Nat.{ℕ, _*_, _/_, _<_}
+use native.Mathlib.Nat.{mul-comm, le-div-iff-mul-le, div-lt-iff-lt-mul}
+use native.Mathlib.Omega.{arith}
+use mathlib.Core.Path.{_≡_, refl, sym, ap, _∙_}
+use mathlib.Core.Bool.{Bool, true, false, not}
+use mathlib.Core.List.{List, [], _∷_, _++_}
+use lib.Dec.{ltb}
+use borrow.Author.Tests.{eqb-true, not-true, not-false, lt-ltb, le-ltb, ltb-true, ltb-false}
+use Rattle.units.proofs.Looks.{by-test}
+use Rattle.layout.specs.declared.Geometry.{Geometry}
+use Rattle.layout.specs.Layout.{Layout, layoutOf, noChip, limits}
+use Rattle.layout.specs.Page.{pageAt}
+use Rattle.layout.specs.Record.{recordAt}
+use Rattle.layout.specs.Images.{Images, lengths}
+use Rattle.layout.proofs.Limits.{Within, limited}
+use Rattle.rules.specs.declared.Refusal.{Refusal}
+use Rattle.rules.specs.declared.Refusal.the-variants.{LostChip, Records, Spares, Collection}
+use Rattle.rules.specs.declared.Check.{Check}
+use Rattle.rules.specs.declared.Check.the-variants.{Passed, Failed}
+use Rattle.rules.specs.Sound.{recordSound}
+use Rattle.rules.specs.Refusals.{Row, unless, checked, lostNamed, recordsCheck, sparesCheck, atRest, buffersRows, imagesRows, settledRows}
+use Rattle.rules.proofs.Soundness.Table.{by-check, not-passed, rows-passed, below-passed, below-failed, both-passed}
+use Rattle.rules.proofs.Soundness.Accepted.{buffers-accepted, images-accepted, settled-accepted}
+use Rattle.rules.proofs.Soundness.Checks.{lengths-are, records-check-pass, spares-check-pass}
+use Rattle.rules.proofs.Soundness.RecordChecks.{record-pass}
+use Rattle.codec.specs.Fit.{ChipsFit, RecordsFit, SlotsFit}
+use Rattle.names.specs.Checked.{Checked, Settled}
+use Rattle.names.proofs.Statements.{tags-pass}
+use Rattle.spares.specs.declared.ChipScan.{ChipScan}
+use Rattle.spares.specs.Scans.{chipScans}
+use Rattle.space.specs.Victims.{Victims}
+use Rattle.space.proofs.Victims.{victims-known}
+use Rattle.looks.specs.declared.Look.{Look}
+use Rattle.looks.specs.Looks.{below, nothing, lookOf}
+
+-- a test that the code has made, and that passed
+pub passed : {r t : Bool} → r ≡ t → not r ≡ false → t ≡ true
+passed {r} e h = sym e ∙ not-false r h
+
+-- or failed
+pub failed : {r t : Bool} → r ≡ t → not r ≡ true → t ≡ false
+failed {r} e h = sym e ∙ not-true r h
+
+-- rows below others, as the code goes on from what the others came to
+pub rows-below : (above rest : List Row) → checked (above ++ rest) ≡ below (checked above) (checked rest)
+rows-below above rest = by-check (checked above)
+    (λ h. rw h (below-passed above rest h))
+    (λ r h. rw h (below-failed above rest r h))
+
+-- a row after another
+pub one-more : (first : Check) (test : Bool) (r : Refusal) (rest : Check) → below (below first (unless test r Passed)) rest ≡ below first (unless test r rest)
+one-more Passed true r rest = refl
+one-more Passed false r rest = refl
+one-more (Failed n) test r rest = refl
+
+-- the check of a look
+pub look-check : (l : Layout) (s : Images) (lost : ℕ) (k : Check) {look : Look} → look ≡ lookOf l s lost k → look .check ≡ k
+look-check l s lost Passed e = ap (λ (o : Look). o .check) e
+look-check l s lost (Failed r) e = ap (λ (o : Look). o .check) e
+
+-- a look that ends in a refusal
+pub look-refused : (l : Layout) (s : Images) (lost : ℕ) {look : Look} {r : Refusal} {k : Check} → look ≡ nothing r → Failed r ≡ k → look ≡ lookOf l s lost k
+look-refused l s lost e f = rw (sym f) e
+
+-- one that finds what there is
+pub look-passed : (l : Layout) (s : Images) (lost : ℕ) {k : Check} {chips : List ChipScan} → Passed ≡ k
+    → chips ≡ chipScans l (recordAt l (s .records)) (pageAt l (s .chips)) lost (l .B) → record { check = Passed; chips = chips } ≡ lookOf l s lost k
+look-passed l s lost e f = rw (sym e, f)
+
+-- and passes more rows
+pub look-kept : (l : Layout) (s : Images) (lost : ℕ) {look : Look} {k more : Check} → k ≡ Passed → Passed ≡ more → look ≡ lookOf l s lost k → look ≡ lookOf l s lost more
+look-kept l s lost e f seen = seen ∙ rw (e, sym f)
+
+-- rows 1 and 2 have passed: the geometry is within the limits, and the images fit it
+pub record BuffersFit (g : Geometry) (s : Images) : Type 0 where
+  pub chips : ChipsFit g (s .chips)
+  pub records : RecordsFit g (s .records)
+  pub slots : SlotsFit g (s .slots)
+
+buffers-by : (g : Geometry) (s : Images) → limits (layoutOf g) ≡ true → lengths (layoutOf g) s ≡ true → BuffersFit g s
+buffers-by g s low long =
+    let n = lengths-are (layoutOf g) s long in
+    record {
+      chips = record { limited = low; long = n .0 };
+      records = record { limited = low; long = n .1 };
+      slots = record { limited = low; long = n .2 };
+    }
+
+pub buffers-fit : (g : Geometry) (s : Images) → checked (buffersRows (layoutOf g) s) ≡ Passed → BuffersFit g s
+buffers-fit g s e = let (low, long) = buffers-accepted (layoutOf g) s e in buffers-by g s low long
+
+module _ (l : Layout) (s : Images) (lost : ℕ) where
+  -- a refusal of rows 1 and 2 is that of the look
+  pub images-first : (r : Refusal) → checked (buffersRows l s) ≡ Failed r → Failed r ≡ checked (imagesRows l s lost)
+  unfolding imagesRows
+  images-first r e =
+      sym (below-failed (buffersRows l s) ((lostNamed l lost, LostChip) ∷ (recordsCheck l s, Records) ∷ (sparesCheck l s lost, Spares) ∷ []) r e)
+
+  -- rows 1 and 2 have passed: what rows 3 to 5 come to is what the look comes to
+  pub images-next : (lost-named records-pass spares-pass : Bool) → checked (buffersRows l s) ≡ Passed
+      → lostNamed l lost ≡ lost-named → recordsCheck l s ≡ records-pass → sparesCheck l s lost ≡ spares-pass
+      → unless lost-named LostChip (unless records-pass Records (unless spares-pass Spares Passed)) ≡ checked (imagesRows l s lost)
+  unfolding imagesRows
+  images-next a b c e named records spares =
+      rw (
+        below-passed (buffersRows l s) ((lostNamed l lost, LostChip) ∷ (recordsCheck l s, Records) ∷ (sparesCheck l s lost, Spares) ∷ []) e,
+        named,
+        records,
+        spares,
+      )
+
+  -- a refusal of rows 1 to 5 is that of rows 1 to 6
+  pub settled-first : (r : Refusal) → checked (imagesRows l s lost) ≡ Failed r → Failed r ≡ checked (settledRows l s lost)
+  unfolding settledRows
+  settled-first r e = sym (below-failed (imagesRows l s lost) ((atRest l s, Collection) ∷ []) r e)
+
+  -- rows 1 to 5 have passed: what row 6 comes to
+  pub settled-next : (rest : Bool) → checked (imagesRows l s lost) ≡ Passed → atRest l s ≡ rest
+      → unless rest Collection Passed ≡ checked (settledRows l s lost)
+  unfolding settledRows
+  settled-next rest e h = rw (below-passed (imagesRows l s lost) ((atRest l s, Collection) ∷ []) e, h)
+
+  -- rows 1 to 6 have passed: so have rows 1 to 5
+  pub settled-images : checked (settledRows l s lost) ≡ Passed → checked (imagesRows l s lost) ≡ Passed
+  unfolding settledRows
+  settled-images e = both-passed (imagesRows l s lost) ((atRest l s, Collection) ∷ []) e .0
+
+-- rows 1 to 5 have passed
+pub record ImagesFit (g : Geometry) (s : Images) : Type 0 where
+  pub fit : BuffersFit g s
+  pub within-limits : Within (layoutOf g)
+  pub stripe : (j : ℕ) → j < g .s → recordSound (layoutOf g) (recordAt (layoutOf g) (s .records) j) ≡ true
+
+pub images-fit : (g : Geometry) (s : Images) (lost : ℕ) → checked (imagesRows (layoutOf g) s lost) ≡ Passed → ImagesFit g s
+images-fit g s lost e =
+    let l = layoutOf g in
+    let h = images-accepted l s lost e in
+    let low = limited l (h .within) in
+    record {
+      fit = record {
+        chips = record { limited = low; long = h .sound .chips };
+        records = record { limited = low; long = h .sound .records };
+        slots = record { limited = low; long = h .sound .slots };
+      };
+      within-limits = h .within;
+      stripe = λ j low. record-pass l (recordAt l (s .records) j) (h .sound .stripes .stripe j low);
+    }
+
+-- and with no chip lost
+pub images-checked : (g : Geometry) (s : Images) (lost : ℕ) → checked (imagesRows (layoutOf g) s lost) ≡ Passed → lost ≡ noChip → Checked g (s .chips) (s .records)
+images-checked g s lost e none-lost =
+    let l = layoutOf g in
+    let h = images-accepted l s lost e in
+    let fit = images-fit g s lost e .fit in
+    record {
+      chips-fit = fit .chips;
+      records-pass = record { fit = fit .records; pass = records-check-pass l s lost (h .sound) };
+      spares-pass = rw none-lost at (spares-check-pass l s lost (h .sound));
+    }
+
+-- rows 1 to 6 have passed, and no chip is lost
+pub record StoreReady (g : Geometry) (s : Images) : Type 0 where
+  pub settled : Settled g (s .chips) (s .records)
+  pub slots-fit : SlotsFit g (s .slots)
+  pub within-limits : Within (layoutOf g)
+
+pub store-ready : (g : Geometry) (s : Images) (lost : ℕ) → checked (settledRows (layoutOf g) s lost) ≡ Passed → lost ≡ noChip → StoreReady g s
+store-ready g s lost e none-lost =
+    let l = layoutOf g in
+    let h = settled-images l s lost e in
+    record {
+      settled = record {
+        checked = images-checked g s lost h none-lost;
+        at-rest = settled-accepted l s lost e none-lost .at-rest;
+      };
+      slots-fit = images-fit g s lost h .fit .slots;
+      within-limits = images-fit g s lost h .within-limits;
+    }
+
+-- then the victim of each chip is known
+pub victims : (g : Geometry) (s : Images) (lost : ℕ) {look : Look} → checked (settledRows (layoutOf g) s lost) ≡ Passed → lost ≡ noChip
+    → look ≡ lookOf (layoutOf g) s lost (checked (settledRows (layoutOf g) s lost)) → Victims g (s .chips) (s .records) (look .chips)
+victims g s lost e none-lost seen =
+    let h = store-ready g s lost e none-lost in
+    victims-known (tags-pass g (s .chips) (s .records) (h .settled .checked)) lost (omega (arith, h .within-limits .members-high)) (ap (λ (o : Look). o .chips) (rw e at seen))
+
+-- a page that there is, without the product of N and S
+pub page-test : (n s page : ℕ) → 0 < n → ltb (page / n) s ≡ ltb page (n * s)
+page-test n s page some = by-test (ltb (page / n) s)
+    (λ e. e ∙ sym (lt-ltb page (n * s) (rw mul-comm (div-lt-iff-lt-mul some .0 (ltb-true (page / n) s e)))))
+    (λ e. e ∙ sym (le-ltb page (n * s) (rw mul-comm (le-div-iff-mul-le some .0 (ltb-false (page / n) s e)))))

@@ -1,0 +1,28 @@
+-- What the look at the images brings.
+use mathlib.Core.List.{List}
+use lib.ListN.{replicate}
+use Prim.Native.Nat.{ℕ}
+use Rattle.layout.specs.Layout.{Layout}
+use Rattle.layout.specs.Page.{pageAt}
+use Rattle.layout.specs.Record.{recordAt}
+use Rattle.layout.specs.Images.{Images}
+use Rattle.rules.specs.declared.Refusal.{Refusal}
+use Rattle.rules.specs.declared.Check.{Check}
+use Rattle.rules.specs.declared.Check.the-variants.{Passed, Failed}
+use Rattle.spares.specs.Scans.{unscanned, chipScans}
+use Rattle.looks.specs.declared.Look.{Look}
+
+-- rows below others count where those above have passed
+abbrev pub below : Check → Check → Check
+below Passed rest = rest
+below (Failed r) rest = Failed r
+
+-- where the rows come to a refusal, nothing was found
+abbrev pub nothing : Refusal → Look
+nothing r = record { check = Failed r; chips = replicate 7 unscanned }
+
+-- where they pass, the scan of each chip but the lost one
+abbrev pub lookOf : Layout → Images → ℕ → Check → Look
+lookOf l s lost Passed =
+    record { check = Passed; chips = chipScans l (recordAt l (s .records)) (pageAt l (s .chips)) lost (l .B) }
+lookOf l s lost (Failed r) = nothing r
