@@ -131,7 +131,7 @@ module _ (l : Layout) where
   pub write-accepted : (s : Images) (lost page : ℕ) (xs : List ℕ) → checked (writeRows l s lost page xs) ≡ Passed → (lost ≡ noChip) × WriteAccepted s page xs
   unfolding writeRows
   write-accepted s lost page xs e =
-      let (none-lost, settled, h, _) = settled-then s lost (pageRows l page (length xs)) (chipSetRow l lost ∷ []) e (λ a b. b .0) in
+      let (none-lost, settled, h, _) = settled-then s lost _ _ e (λ a b. b .0) in
       (none-lost, record { settled = settled; page = ltb-true page (N * S) (h .0); whole = eqb-true (length xs) W (h .1 .0) })
 
   pub write-passes : (s : Images) (page : ℕ) (xs : List ℕ) → WriteAccepted s page xs → checked (writeRows l s noChip page xs) ≡ Passed
@@ -146,16 +146,14 @@ module _ (l : Layout) where
   pub commit-accepted : (s : Images) (lost j : ℕ) → checked (commitRows l s lost j) ≡ Passed → (lost ≡ noChip) × CommitAccepted s j
   unfolding commitRows
   commit-accepted s lost j e =
-      let (none-lost, settled, h, work) =
-      settled-then s lost ((ltb j S, Request) ∷ chipSetRow l lost ∷ []) ((hasSlot (recordAt l (s .records) j), Work) ∷ []) e (λ a b. a .1 .0) in
+      let (none-lost, settled, h, work) = settled-then s lost _ _ e (λ a b. a .1 .0) in
       (none-lost, record { settled = settled; stripe = ltb-true j S (h .0); slot = work .0 })
 
   -- collect
   pub collect-accepted : (s : Images) (lost c : ℕ) → checked (collectRows l s lost c) ≡ Passed → (lost ≡ noChip) × CollectAccepted s c
   unfolding collectRows
   collect-accepted s lost c e =
-      let (none-lost, settled, h, work) =
-      settled-then s lost ((leb c N, Request) ∷ chipSetRow l lost ∷ []) ((collectableOn l s c, Work) ∷ []) e (λ a b. a .1 .0) in (
+      let (none-lost, settled, h, work) = settled-then s lost _ _ e (λ a b. a .1 .0) in (
         none-lost,
         record {
           settled = settled;
