@@ -26,6 +26,18 @@ pub enum Call {
 }
 
 impl Call {
+    /// One of each kind; the number is its page, stripe or chip, and the bytes are a read's buffer and a write's data.
+    pub fn of_each_kind(lost: u64, number: u64, [buffer, data]: [Vec<u8>; 2], allowance: u64) -> [Call; 6] {
+        [
+            Call::Format { allowance },
+            Call::Open { lost, allowance },
+            Call::Read { lost, page: number, buffer },
+            Call::Write { lost, page: number, data, allowance },
+            Call::Commit { lost, stripe: number, allowance },
+            Call::Collect { lost, chip: number, allowance },
+        ]
+    }
+
     pub fn name(&self) -> &'static str {
         match self {
             Call::Format { .. } => "format",
