@@ -16,7 +16,7 @@ pub struct Geometry {
 
 #[repr(C)]
 #[derive(Clone, Copy)]
-pub struct Status {
+pub struct Report {
     status: u64,
     reads: u64,
     programs: u64,
@@ -24,80 +24,15 @@ pub struct Status {
     stores: u64,
 }
 
-extern "C" {
-    fn vazhettu_format(
-        g: Geometry,
-        chips: *mut u8,
-        chips_len: usize,
-        records: *mut u8,
-        records_len: usize,
-        slots: *const u8,
-        slots_len: usize,
-        allowance: u64,
-    ) -> Status;
-    fn vazhettu_open(
-        g: Geometry,
-        chips: *mut u8,
-        chips_len: usize,
-        records: *mut u8,
-        records_len: usize,
-        slots: *const u8,
-        slots_len: usize,
-        lost: u64,
-        allowance: u64,
-    ) -> Status;
-    fn vazhettu_read(
-        g: Geometry,
-        chips: *const u8,
-        chips_len: usize,
-        records: *const u8,
-        records_len: usize,
-        slots: *const u8,
-        slots_len: usize,
-        lost: u64,
-        page: u64,
-        buffer: *mut u8,
-        buffer_len: usize,
-    ) -> Status;
-    fn vazhettu_write(
-        g: Geometry,
-        chips: *mut u8,
-        chips_len: usize,
-        records: *mut u8,
-        records_len: usize,
-        slots: *mut u8,
-        slots_len: usize,
-        lost: u64,
-        page: u64,
-        bytes: *const u8,
-        bytes_len: usize,
-        allowance: u64,
-    ) -> Status;
-    fn vazhettu_commit(
-        g: Geometry,
-        chips: *mut u8,
-        chips_len: usize,
-        records: *mut u8,
-        records_len: usize,
-        slots: *const u8,
-        slots_len: usize,
-        lost: u64,
-        stripe: u64,
-        allowance: u64,
-    ) -> Status;
-    fn vazhettu_collect(
-        g: Geometry,
-        chips: *mut u8,
-        chips_len: usize,
-        records: *mut u8,
-        records_len: usize,
-        slots: *const u8,
-        slots_len: usize,
-        lost: u64,
-        chip: u64,
-        allowance: u64,
-    ) -> Status;
+macro_rules! exports {
+    ($($export:ident($($argument:ident: $type:ty $([$len:ident])?,)*) -> $answer:ty;)*) => {
+        extern "C" {
+            $(fn $export($($argument: $type, $($len: usize,)?)*) -> $answer;)*
+        }
+    };
 }
+
+include!("exports.rs");
 
 impl From<reference::Geometry> for Geometry {
     fn from(g: reference::Geometry) -> Geometry {
@@ -105,14 +40,14 @@ impl From<reference::Geometry> for Geometry {
     }
 }
 
-impl From<Status> for reference::Status {
-    fn from(s: Status) -> reference::Status {
+impl From<Report> for reference::Status {
+    fn from(r: Report) -> reference::Status {
         reference::Status {
-            status: s.status,
-            reads: s.reads,
-            programs: s.programs,
-            erases: s.erases,
-            stores: s.stores,
+            status: r.status,
+            reads: r.reads,
+            programs: r.programs,
+            erases: r.erases,
+            stores: r.stores,
         }
     }
 }
@@ -189,26 +124,26 @@ impl LentImages {
     }
 }
 
+/// An export on lent images, with what it takes besides them.
+macro_rules! call {
+    ($export:ident, $g:expr, $lent:expr $(, $argument:expr)*) => {{
+        let LentImages { chips, records, slots } = $lent;
+        let (chips_len, records_len, slots_len) = (chips.length(), records.length(), slots.length());
+        let (chips, records, slots) = (chips.pointer(), records.pointer(), slots.pointer());
+        // SAFETY: each pointer is to as many bytes as the length beside it says, and each to a buffer of its own.
+        let report = unsafe {
+            $export($g.into(), chips, chips_len, records, records_len, slots, slots_len $(, $argument)*)
+        };
+        report.into()
+    }};
+}
+
 pub fn format<L: Buffer>(
     g: reference::Geometry,
     lent: &mut LentImages<L>,
     allowance: u64,
 ) -> reference::Status {
-    let LentImages { chips, records, slots } = lent;
-    // SAFETY: each pointer is to as many bytes as the length beside it, of three buffers.
-    let status = unsafe {
-        vazhettu_format(
-            g.into(),
-            chips.pointer(),
-            chips.length(),
-            records.pointer(),
-            records.length(),
-            slots.pointer(),
-            slots.length(),
-            allowance,
-        )
-    };
-    status.into()
+    call!(vazhettu_format, g, lent, allowance)
 }
 
 pub fn open<L: Buffer>(
@@ -217,22 +152,7 @@ pub fn open<L: Buffer>(
     lost: u64,
     allowance: u64,
 ) -> reference::Status {
-    let LentImages { chips, records, slots } = lent;
-    // SAFETY: each pointer is to as many bytes as the length beside it, of three buffers.
-    let status = unsafe {
-        vazhettu_open(
-            g.into(),
-            chips.pointer(),
-            chips.length(),
-            records.pointer(),
-            records.length(),
-            slots.pointer(),
-            slots.length(),
-            lost,
-            allowance,
-        )
-    };
-    status.into()
+    call!(vazhettu_open, g, lent, lost, allowance)
 }
 
 pub fn read<L: Buffer>(
@@ -242,24 +162,7 @@ pub fn read<L: Buffer>(
     page: u64,
     buffer: &mut L,
 ) -> reference::Status {
-    let LentImages { chips, records, slots } = lent;
-    // SAFETY: each pointer is to as many bytes as the length beside it, of four buffers.
-    let status = unsafe {
-        vazhettu_read(
-            g.into(),
-            chips.pointer(),
-            chips.length(),
-            records.pointer(),
-            records.length(),
-            slots.pointer(),
-            slots.length(),
-            lost,
-            page,
-            buffer.pointer(),
-            buffer.length(),
-        )
-    };
-    status.into()
+    call!(vazhettu_read, g, lent, lost, page, buffer.pointer(), buffer.length())
 }
 
 pub fn write<L: Buffer>(
@@ -270,25 +173,7 @@ pub fn write<L: Buffer>(
     data: &mut L,
     allowance: u64,
 ) -> reference::Status {
-    let LentImages { chips, records, slots } = lent;
-    // SAFETY: each pointer is to as many bytes as the length beside it, of four buffers.
-    let status = unsafe {
-        vazhettu_write(
-            g.into(),
-            chips.pointer(),
-            chips.length(),
-            records.pointer(),
-            records.length(),
-            slots.pointer(),
-            slots.length(),
-            lost,
-            page,
-            data.pointer(),
-            data.length(),
-            allowance,
-        )
-    };
-    status.into()
+    call!(vazhettu_write, g, lent, lost, page, data.pointer(), data.length(), allowance)
 }
 
 pub fn commit<L: Buffer>(
@@ -298,23 +183,7 @@ pub fn commit<L: Buffer>(
     stripe: u64,
     allowance: u64,
 ) -> reference::Status {
-    let LentImages { chips, records, slots } = lent;
-    // SAFETY: each pointer is to as many bytes as the length beside it, of three buffers.
-    let status = unsafe {
-        vazhettu_commit(
-            g.into(),
-            chips.pointer(),
-            chips.length(),
-            records.pointer(),
-            records.length(),
-            slots.pointer(),
-            slots.length(),
-            lost,
-            stripe,
-            allowance,
-        )
-    };
-    status.into()
+    call!(vazhettu_commit, g, lent, lost, stripe, allowance)
 }
 
 pub fn collect<L: Buffer>(
@@ -324,21 +193,5 @@ pub fn collect<L: Buffer>(
     chip: u64,
     allowance: u64,
 ) -> reference::Status {
-    let LentImages { chips, records, slots } = lent;
-    // SAFETY: each pointer is to as many bytes as the length beside it, of three buffers.
-    let status = unsafe {
-        vazhettu_collect(
-            g.into(),
-            chips.pointer(),
-            chips.length(),
-            records.pointer(),
-            records.length(),
-            slots.pointer(),
-            slots.length(),
-            lost,
-            chip,
-            allowance,
-        )
-    };
-    status.into()
+    call!(vazhettu_collect, g, lent, lost, chip, allowance)
 }

@@ -185,7 +185,7 @@ static void test_collect(void) {
 static void test_room(void) {
     for (uint8_t i = 0; i < 11; i++)
         expect(write_page(NONE, 1, i, ALL).erases == 0, "there is a place");
-    struct vazhettu_report r = write_page(NONE, 1, 0x3c, 4 * K + 9);
+    struct vazhettu_report r = write_page(NONE, 1, 0x3c, 4 * K + 13);
     expect(r.status == VAZHETTU_DONE && r.erases == 1 && r.stores > 3, "a write that finds no place collects");
     expect(reads_as(NONE, 1, 0x3c, 1) && reads_without(1, 1, 0x3c, 0), "and is made");
     expect(reads_without(2, 2, 0x0f, 2), "page 2 is rebuilt from parity and the old page 1");

@@ -11,7 +11,7 @@
 #include <sys/mman.h>
 #include <ucontext.h>
 
-enum { STACK = 16384, WALL = 4096, UNTOUCHED = 0xa5, W = 4096, ROUNDS = 4000 };
+enum { STACK = 16384, GUARD_PAGE = 4096, UNTOUCHED = 0xa5, W = 4096, ROUNDS = 4000 };
 enum call { FORMAT, OPEN, READ, WRITE, COMMIT, COLLECT, CALLS };
 
 static const char *const names[CALLS] = {"format", "open", "read", "write", "commit", "collect"};
@@ -99,10 +99,10 @@ static void use_store(void) {
 
 int main(void) {
     const struct vazhettu_geometry stores[] = {{6, W, 3, 3, 4, 1}, {2, W, 16, 2, 13, 2}};
-    uint8_t *memory = mmap(NULL, STACK + WALL, PROT_READ | PROT_WRITE, MAP_PRIVATE | MAP_ANONYMOUS, -1, 0);
-    if (memory == MAP_FAILED || mprotect(memory, WALL, PROT_NONE))
+    uint8_t *memory = mmap(NULL, STACK + GUARD_PAGE, PROT_READ | PROT_WRITE, MAP_PRIVATE | MAP_ANONYMOUS, -1, 0);
+    if (memory == MAP_FAILED || mprotect(memory, GUARD_PAGE, PROT_NONE))
         return 2;
-    stack = memory + WALL;
+    stack = memory + GUARD_PAGE;
     for (size_t i = 0; i < sizeof stores / sizeof *stores; i++) {
         g = stores[i];
         use_store();

@@ -3,13 +3,13 @@
 
 use crate::coverage::Coverage;
 use crate::generator::{ALL, LARGE};
+use crate::guard_pages::{PageGuarded, Placement};
 use crate::library::{self, LentImages};
 use crate::notes;
 use crate::plan::Plan;
 use crate::random::Random;
 use crate::reference::{self, Geometry, Images, Status, CUT, DONE, NO_CHIP};
 use crate::strange::strange_things;
-use crate::walls::{Standing, Walled};
 use std::process::exit;
 
 /// One in so many calls gets what it may only read in memory that can only be read.
@@ -26,6 +26,18 @@ pub enum Call {
 }
 
 impl Call {
+    /// One of each kind; the number is its page, stripe or chip, and the bytes are a read's buffer and a write's data.
+    pub fn of_each_kind(lost: u64, number: u64, [buffer, data]: [Vec<u8>; 2], allowance: u64) -> [Call; 6] {
+        [
+            Call::Format { allowance },
+            Call::Open { lost, allowance },
+            Call::Read { lost, page: number, buffer },
+            Call::Write { lost, page: number, data, allowance },
+            Call::Commit { lost, stripe: number, allowance },
+            Call::Collect { lost, chip: number, allowance },
+        ]
+    }
+
     pub fn name(&self) -> &'static str {
         match self {
             Call::Format { .. } => "format",
@@ -130,7 +142,7 @@ impl Call {
     }
 
     /// The same by the library.
-    fn by_library(&self, g: Geometry, lent: &mut LentImages<Walled>, bytes: &mut Walled) -> Status {
+    fn by_library(&self, g: Geometry, lent: &mut LentImages<PageGuarded>, bytes: &mut PageGuarded) -> Status {
         match *self {
             Call::Format { allowance } => library::format(g, lent, allowance),
             Call::Open { lost, allowance } => library::open(g, lent, lost, allowance),
@@ -144,7 +156,7 @@ impl Call {
     }
 
     /// Seals what it may only read, or opens it again.
-    fn seal(&self, lent: &mut LentImages<Walled>, bytes: &mut Walled, sealed: bool) {
+    fn seal(&self, lent: &mut LentImages<PageGuarded>, bytes: &mut PageGuarded, sealed: bool) {
         match self {
             Call::Read { .. } => {
                 lent.chips.seal(sealed);
@@ -167,8 +179,8 @@ pub struct Comparison {
     pub coverage: Coverage,
     /// The images of this case are built, as no list of calls may leave them, and sound with no chip lost.
     pub built: bool,
-    lent: LentImages<Walled>,
-    lent_bytes: Walled,
+    lent: LentImages<PageGuarded>,
+    lent_bytes: PageGuarded,
 }
 
 impl Comparison {
@@ -181,8 +193,8 @@ impl Comparison {
             calls: 0,
             coverage: Coverage::new(),
             built: false,
-            lent: LentImages::between_walls(),
-            lent_bytes: Walled::new(),
+            lent: LentImages::between_guard_pages(),
+            lent_bytes: PageGuarded::new(),
         }
     }
 
@@ -246,15 +258,15 @@ impl Comparison {
 
     /// The call through the library, on copies of the images that it leaves in `lent`.
     fn on_library(&mut self, random: &mut Random, g: Geometry, images: &Images, call: &Call) -> Status {
-        let (standing, point) = random.pick(&[
-            (Standing::AtTheEnd, "buffers that end at a wall"),
-            (Standing::AtTheStart, "buffers that begin at a wall"),
-            (Standing::Free, "buffers at any byte"),
+        let (placement, point) = random.pick(&[
+            (Placement::AtTheEnd, "buffers that end at a guard page"),
+            (Placement::AtTheStart, "buffers that begin at a guard page"),
+            (Placement::Free, "buffers at any byte"),
         ]);
         self.coverage.hit(point);
         let Comparison { lent, lent_bytes, .. } = self;
-        lent.lend(images, standing, random);
-        lent_bytes.lend(call.bytes(), standing, random);
+        lent.lend(images, placement, random);
+        lent_bytes.lend(call.bytes(), placement, random);
         if !random.one_in(SEALED) {
             return call.by_library(g, lent, lent_bytes);
         }
@@ -276,7 +288,7 @@ impl Comparison {
         }
     }
 
-    fn same(&self, g: Geometry, call: &Call, what: &str, found: &Walled, expected: &[u8]) {
+    fn same(&self, g: Geometry, call: &Call, what: &str, found: &PageGuarded, expected: &[u8]) {
         if !found.guarded() {
             self.fail(g, &format!("{}: a byte outside the {what} was changed", call.describe()));
         }

@@ -156,15 +156,7 @@ pub fn bad_geometry_case(to: &mut Comparison, random: &mut Random) {
     let lost = random.pick(&[NO_CHIP, 0, 9, ALL]);
     let allowance = random.pick(&[0, 1, ALL]);
     let number = random.pick(&[0, 1, ALL]);
-    let calls = [
-        Call::Format { allowance },
-        Call::Open { lost, allowance },
-        Call::Read { lost, page: number, buffer: bytes.clone() },
-        Call::Write { lost, page: number, data: bytes, allowance },
-        Call::Commit { lost, stripe: number, allowance },
-        Call::Collect { lost, chip: number, allowance },
-    ];
-    for call in &calls {
+    for call in &Call::of_each_kind(lost, number, [bytes.clone(), bytes], allowance) {
         let status = to.call(random, g, &mut images, call);
         if status.status != 1 {
             to.fail(g, &format!("harness: {point} is {status:?}, not refused 1"));

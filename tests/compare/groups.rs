@@ -246,6 +246,11 @@ pub fn groups() -> Vec<Group> {
     groups.extend(chips());
     groups.extend([points("images", &MADE_IMAGES), strange_images()]);
     groups.extend(damages());
-    groups.extend([broken(), points("list", &LISTS), points("book held", &BOOK), points("buffers", &WALLS)]);
+    groups.extend([
+        broken(),
+        points("list", &LISTS),
+        points("book held", &BOOK),
+        points("buffers", &BUFFERS),
+    ]);
     groups
 }

@@ -144,17 +144,12 @@ fn all_refused(
     number: u64,
     point: &str,
 ) {
-    let (lost, allowance) = (NO_CHIP, ALL);
-    let mut calls = vec![
-        Call::Open { lost, allowance },
-        Call::Read { lost, page: 0, buffer: random.bytes(shape.w) },
-        Call::Write { lost, page: 0, data: random.bytes(shape.w), allowance },
-        Call::Commit { lost, stripe: 0, allowance },
-        Call::Collect { lost, chip: 0, allowance },
-    ];
+    let bytes = [random.bytes(shape.w), random.bytes(shape.w)];
+    let mut calls = Vec::from(Call::of_each_kind(NO_CHIP, 0, bytes, ALL));
+    calls.retain(|call| !matches!(call, Call::Format { .. }));
     // On a large image one of them is enough.
     if shape.pages() > LARGE {
-        calls = vec![calls.swap_remove(random.below(5))];
+        calls = vec![calls.swap_remove(random.below(calls.len()))];
     }
     for call in &calls {
         let status = to.call(random, g, images, call);

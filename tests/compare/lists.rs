@@ -13,7 +13,7 @@ use crate::strange::strange_things;
 
 /// Which pages a list writes mostly.
 #[derive(Clone, Copy)]
-enum Habit {
+enum Pattern {
     Any,
     /// A few pages again and again.
     Few,
@@ -23,7 +23,7 @@ enum Habit {
 
 struct List {
     store: Store,
-    habit: Habit,
+    pattern: Pattern,
     few: Vec<usize>,
     swept: usize,
     /// The name of the last call, if it was cut.
@@ -39,12 +39,12 @@ impl List {
         let mut few: Vec<usize> = (0..random.between(1, 4)).map(|_| random.below(pages)).collect();
         // A page that is written all the time fills its chip, so that a large one comes to collect.
         few.extend([few[0]; 4]);
-        let habit = match shape.pages() {
-            2_000.. => Habit::Few,
-            _ if shape.m >= 200 => Habit::Sweep,
-            _ => random.pick(&[Habit::Any, Habit::Any, Habit::Few]),
+        let pattern = match shape.pages() {
+            2_000.. => Pattern::Few,
+            _ if shape.m >= 200 => Pattern::Sweep,
+            _ => random.pick(&[Pattern::Any, Pattern::Any, Pattern::Few]),
         };
-        List { store, habit, few, swept: 0, cut: None, committed: 0, collected: 0 }
+        List { store, pattern, few, swept: 0, cut: None, committed: 0, collected: 0 }
     }
 
     /// A call of the list, with all that it may store.
@@ -76,9 +76,9 @@ impl List {
 
     fn next_page(&mut self, random: &mut Random) -> usize {
         let Shape { n, s, .. } = self.store.shape;
-        match self.habit {
-            Habit::Few if !random.one_in(8) => random.pick(&self.few),
-            Habit::Sweep if !random.one_in(8) => {
+        match self.pattern {
+            Pattern::Few if !random.one_in(8) => random.pick(&self.few),
+            Pattern::Sweep if !random.one_in(8) => {
                 self.swept = (self.swept + 1) % s;
                 self.swept * n + random.below(n)
             }

@@ -18,6 +18,7 @@ mod damage;
 mod generator;
 mod geometries;
 mod groups;
+mod guard_pages;
 mod images;
 #[path = "../library.rs"]
 #[allow(dead_code)]
@@ -35,7 +36,6 @@ mod random;
 mod reference;
 mod requests;
 mod strange;
-mod walls;
 
 use calls::Comparison;
 use geometries::bad_geometry_case;
@@ -51,7 +51,7 @@ const ENOUGH: u64 = 20_000;
 /// One in so many cases is of the largest images.
 const SELDOM: u64 = 1_000;
 /// The seconds after which a case counts as one that does not end.
-const PATIENCE: u32 = 300;
+const TIMEOUT_SECONDS: u32 = 300;
 
 /// The seed and the case under way, for `crashed`.
 static UNDER_WAY: [AtomicU64; 2] = [AtomicU64::new(0), AtomicU64::new(0)];
@@ -103,7 +103,7 @@ fn run_case(to: &mut Comparison, case: u64) {
     to.built = false;
     UNDER_WAY[1].store(case, Relaxed);
     // SAFETY: it only sets a clock.
-    unsafe { alarm(PATIENCE) };
+    unsafe { alarm(TIMEOUT_SECONDS) };
     let mut random = Random::for_case(to.seed, case);
     match random.below(80) {
         _ if case % SELDOM == SELDOM - 1 => largest_case(to, &mut random),

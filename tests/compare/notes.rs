@@ -86,9 +86,9 @@ fn most_stores(shape: Shape, call: &Call) -> usize {
         Call::Format { .. } => (n + 1) * b + s + 1,
         Call::Open { .. } => k + 2,
         Call::Read { .. } => 0,
-        Call::Write { .. } => 4 * k + 9,
-        Call::Commit { .. } => 2 * k + 4,
-        Call::Collect { .. } => 2 * k + 2,
+        Call::Write { .. } => 4 * k + 13,
+        Call::Commit { .. } => 2 * k + 6,
+        Call::Collect { .. } => 2 * k + 4,
     }
 }
 

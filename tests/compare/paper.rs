@@ -7,7 +7,7 @@ use crate::reference::{Geometry, Images, CUT, DONE, NO_CHIP};
 
 type Case = fn(&mut Comparison);
 
-/// "Bags on the pan" and "Thumbs on the scale".
+/// Those of its sections "Bags on the pan" and "Thumbs on the scale".
 pub const CASES: [(&str, Case); 17] = [
     ("paper: the seven lines of the bench program", seven_lines),
     ("paper: every byte after the seven lines", every_byte),
@@ -50,7 +50,7 @@ fn bench_geometry() -> Geometry {
 }
 
 /// A store in both implementations; what it answers and holds must be what the paper says.
-struct Pan<'a> {
+struct ComparedStore<'a> {
     to: &'a mut Comparison,
     random: Random,
     g: Geometry,
@@ -58,20 +58,26 @@ struct Pan<'a> {
     lost: u64,
 }
 
-impl Pan<'_> {
+impl ComparedStore<'_> {
     /// Images of 0x5a, as nobody has formatted them.
-    fn unformatted(to: &mut Comparison, g: Geometry) -> Pan<'_> {
+    fn unformatted(to: &mut Comparison, g: Geometry) -> ComparedStore<'_> {
         let pages = (g.n + 1) * g.b * g.k;
         let [chips, records, slots] =
             [pages * 24, (g.s + 1) * 32, (g.m + 1) * 16].map(|length| vec![0x5a; length as usize]);
-        Pan { to, random: Random::new(1), g, images: Images { chips, records, slots }, lost: NO_CHIP }
+        ComparedStore {
+            to,
+            random: Random::new(1),
+            g,
+            images: Images { chips, records, slots },
+            lost: NO_CHIP,
+        }
     }
 
-    fn new(to: &mut Comparison, g: Geometry) -> Pan<'_> {
-        let mut pan = Pan::unformatted(to, g);
-        let status = pan.call(Call::Format { allowance: ALL }).0;
-        pan.holds(status == DONE, "a format is done");
-        pan
+    fn new(to: &mut Comparison, g: Geometry) -> ComparedStore<'_> {
+        let mut store = ComparedStore::unformatted(to, g);
+        let status = store.call(Call::Format { allowance: ALL }).0;
+        store.holds(status == DONE, "a format is done");
+        store
     }
 
     fn holds(&self, condition: bool, what: &str) {
@@ -170,7 +176,7 @@ const LINES: [(&str, &str); 7] = [
 ];
 
 /// What the bench program prints for a line.
-fn obey(pan: &mut Pan, line: &str) -> String {
+fn obey(store: &mut ComparedStore, line: &str) -> String {
     let words: Vec<&str> = line.split(' ').collect();
     let number: u64 = words[1].parse().expect("a number");
     let echo = format!("{} {}", words[0], words[1]);
@@ -180,33 +186,33 @@ fn obey(pan: &mut Pan, line: &str) -> String {
     };
     match words[0] {
         "x" => {
-            pan.lost = number;
+            store.lost = number;
             echo
         }
         "w" => {
             let byte = u8::from_str_radix(words[2], 16).expect("a byte");
-            format!("{echo} {}", counted(pan.write_allowed(number, byte, 65_535)))
+            format!("{echo} {}", counted(store.write_allowed(number, byte, 65_535)))
         }
         _ => {
-            let (bytes, reads) = pan.read(number);
+            let (bytes, reads) = store.read(number);
             format!("{echo} {:02x} {}", bytes[0], counted((DONE, [reads, 0, 0, 0])))
         }
     }
 }
 
 fn seven_lines(to: &mut Comparison) {
-    let mut pan = Pan::new(to, bench_geometry());
+    let mut store = ComparedStore::new(to, bench_geometry());
     for (line, printed) in LINES {
-        let found = obey(&mut pan, line);
-        pan.holds(found == printed, &format!("{line} prints {printed}, not {found}"));
+        let found = obey(&mut store, line);
+        store.holds(found == printed, &format!("{line} prints {printed}, not {found}"));
     }
 }
 
 /// Pages 1 and 2 are members 1 and 2 of stripe 0, on chips 1 and 2.
 fn every_byte(to: &mut Comparison) {
-    let mut pan = Pan::new(to, bench_geometry());
+    let mut store = ComparedStore::new(to, bench_geometry());
     for (line, _) in LINES {
-        obey(&mut pan, line);
+        obey(&mut store, line);
     }
     let mut chips = vec![255; 5 * 16 * 24];
     let pages = [
@@ -217,65 +223,65 @@ fn every_byte(to: &mut Comparison) {
     for (chip, number, bytes) in pages {
         chips[(chip * 16 + number) * 24..][..24].copy_from_slice(&bytes);
     }
-    pan.holds(pan.images.chips == chips, "three pages are programmed");
+    store.holds(store.images.chips == chips, "three pages are programmed");
     let mut record = empty_record();
     record[2..6].copy_from_slice(&[1, 0, 0, 0]);
     record[26..28].copy_from_slice(&[0b110, 0]);
     let records = [&record[..], &empty_record().repeat(5), &[0; 32]].concat();
-    pan.holds(pan.images.records == records, "record 0 has pages 1 and 0, the bitmap 6 and slot 0");
+    store.holds(store.images.records == records, "record 0 has pages 1 and 0, the bitmap 6 and slot 0");
     let slots = [[0xa5 ^ 0x0f ^ 0xa5 ^ 0x11; 16], [0xa5 ^ 0x0f; 16], [0x5a; 16]].concat();
-    pan.holds(pan.images.slots == slots, "the partial parities are in slots 0 and 1");
+    store.holds(store.images.slots == slots, "the partial parities are in slots 0 and 1");
 }
 
 fn after_format(to: &mut Comparison) {
-    let mut pan = Pan::unformatted(to, bench_geometry());
-    let answer = pan.call(Call::Format { allowance: 27 });
-    pan.holds(answer == (DONE, [0, 0, 20, 27]), "20 erases and 7 records");
-    pan.holds(pan.images.chips == vec![255; 5 * 16 * 24], "every block is erased");
+    let mut store = ComparedStore::unformatted(to, bench_geometry());
+    let answer = store.call(Call::Format { allowance: 27 });
+    store.holds(answer == (DONE, [0, 0, 20, 27]), "20 erases and 7 records");
+    store.holds(store.images.chips == vec![255; 5 * 16 * 24], "every block is erased");
     let records = [&empty_record().repeat(6)[..], &[0; 32]].concat();
-    pan.holds(pan.images.records == records, "six empty records and phase 0");
-    pan.holds(pan.images.slots == [0x5a; 3 * 16], "slots stay");
+    store.holds(store.images.records == records, "six empty records and phase 0");
+    store.holds(store.images.slots == [0x5a; 3 * 16], "slots stay");
 }
 
 // ---------------------------------------------------------------------------------------------
-// Bags on the pan
+// Worked numbers
 // ---------------------------------------------------------------------------------------------
 
 fn parity_chips(to: &mut Comparison) {
     for (stripe, chip) in [(0, 4), (1, 3), (4, 0), (5, 4)] {
-        let mut pan = Pan::new(to, bench_geometry());
-        pan.write(4 * stripe, 1);
-        pan.commit(stripe);
-        pan.holds(pan.pages_of(80) == [(chip, 0)], &format!("parity of stripe {stripe} on chip {chip}"));
+        let mut store = ComparedStore::new(to, bench_geometry());
+        store.write(4 * stripe, 1);
+        store.commit(stripe);
+        store.holds(store.pages_of(80) == [(chip, 0)], &format!("parity of stripe {stripe} on chip {chip}"));
     }
 }
 
 fn page_chips(to: &mut Comparison) {
     for (number, chip) in [(6, 2), (7, 4), (16, 1)] {
-        let mut pan = Pan::new(to, bench_geometry());
-        pan.write(number, 1);
-        pan.holds(pan.pages_of(68) == [(chip, 0)], &format!("page {number} on chip {chip}"));
+        let mut store = ComparedStore::new(to, bench_geometry());
+        store.write(number, 1);
+        store.holds(store.pages_of(68) == [(chip, 0)], &format!("page {number} on chip {chip}"));
     }
 }
 
 /// All pages of a stripe written and committed, and then so many again.
-fn stripe_with(pan: &mut Pan, stripe: u64, set_bits: u64) {
-    let n = pan.g.n;
+fn stripe_with(store: &mut ComparedStore, stripe: u64, set_bits: u64) {
+    let n = store.g.n;
     for m in 0..n {
-        pan.write(stripe * n + m, 1 << m);
+        store.write(stripe * n + m, 1 << m);
     }
-    pan.commit(stripe);
+    store.commit(stripe);
     for m in 0..set_bits {
-        pan.write(stripe * n + m, 0x80 | 1 << m);
+        store.write(stripe * n + m, 0x80 | 1 << m);
     }
 }
 
 fn reads_of_commits(to: &mut Comparison, (n, costs): &(u64, &[u64])) {
     for (p, &cost) in (1..).zip(*costs) {
-        let mut pan = Pan::new(to, geometry(*n, 4, 4, 6, 2));
-        stripe_with(&mut pan, 0, p);
-        let counts = pan.commit(0);
-        pan.holds(counts == [cost, 1, 0, 2], &format!("a commit of p = {p} reads {cost} pages"));
+        let mut store = ComparedStore::new(to, geometry(*n, 4, 4, 6, 2));
+        stripe_with(&mut store, 0, p);
+        let counts = store.commit(0);
+        store.holds(counts == [cost, 1, 0, 2], &format!("a commit of p = {p} reads {cost} pages"));
     }
 }
 
@@ -283,40 +289,31 @@ fn reads_of_commits(to: &mut Comparison, (n, costs): &(u64, &[u64])) {
 fn least_cost(to: &mut Comparison, (n, costs): &(u64, &[u64])) {
     for (p, &cost) in (1..).zip(*costs) {
         for (q, &other) in (1..).zip(*costs) {
-            let mut pan = Pan::new(to, geometry(*n, 4, 4, 6, 2));
-            stripe_with(&mut pan, 0, p);
-            stripe_with(&mut pan, 1, q);
-            let counts = pan.write(2 * n, 1);
-            let first = cost <= other;
-            let slots = [0, 1].map(|stripe| pan.record(stripe)[27] == 255);
-            pan.holds(slots == [first, !first], &format!("of p = {p} and {q} it commits the cheaper"));
-            pan.holds(counts == [cost.min(other), 2, 0, 5], &format!("and reads {} pages", cost.min(other)));
+            let mut store = ComparedStore::new(to, geometry(*n, 4, 4, 6, 2));
+            stripe_with(&mut store, 0, p);
+            stripe_with(&mut store, 1, q);
+            let counts = store.write(2 * n, 1);
+            let (first, least) = (cost <= other, cost.min(other));
+            let slots = [0, 1].map(|stripe| store.record(stripe)[27] == 255);
+            store.holds(slots == [first, !first], &format!("of p = {p} and {q} it commits the cheaper"));
+            store.holds(counts == [least, 2, 0, 5], &format!("and reads {least} pages"));
         }
     }
 }
 
 fn accepted(to: &mut Comparison, g: Geometry, erases: u64) {
-    let mut pan = Pan::unformatted(to, g);
-    let answer = pan.call(Call::Format { allowance: ALL });
-    pan.holds(answer == (DONE, [0, 0, erases, erases + g.s + 1]), "a format is done");
-    let opened = pan.call(Call::Open { lost: NO_CHIP, allowance: 0 });
-    pan.holds(opened == (DONE, [0; 4]), "an open is done");
+    let mut store = ComparedStore::unformatted(to, g);
+    let answer = store.call(Call::Format { allowance: ALL });
+    store.holds(answer == (DONE, [0, 0, erases, erases + g.s + 1]), "a format is done");
+    let opened = store.call(Call::Open { lost: NO_CHIP, allowance: 0 });
+    store.holds(opened == (DONE, [0; 4]), "an open is done");
 }
 
 fn refused(to: &mut Comparison, g: Geometry) {
-    let (lost, allowance) = (NO_CHIP, ALL);
-    let calls = [
-        Call::Format { allowance },
-        Call::Open { lost, allowance },
-        Call::Read { lost, page: 0, buffer: vec![0; 16] },
-        Call::Write { lost, page: 0, data: vec![0; 16], allowance },
-        Call::Commit { lost, stripe: 0, allowance },
-        Call::Collect { lost, chip: 0, allowance },
-    ];
-    let mut pan = Pan::unformatted(to, g);
-    for call in calls {
-        let answer = pan.call(call);
-        pan.holds(answer == (1, [0; 4]), "every call is refused 1");
+    let mut store = ComparedStore::unformatted(to, g);
+    for call in Call::of_each_kind(NO_CHIP, 0, [vec![0; 16], vec![0; 16]], ALL) {
+        let answer = store.call(call);
+        store.holds(answer == (1, [0; 4]), "every call is refused 1");
     }
 }
 
@@ -331,90 +328,90 @@ fn first_write(to: &mut Comparison) {
     {
         for number in [0, 1, g.n * g.s - 1] {
             for allowance in 0..3 {
-                let mut pan = Pan::new(to, g);
-                let (status, counts) = pan.write_allowed(number, 0xa5, allowance);
+                let mut store = ComparedStore::new(to, g);
+                let (status, counts) = store.write_allowed(number, 0xa5, allowance);
                 let programs = allowance.min(1);
-                pan.holds((status, counts) == (CUT, [0, programs, 0, allowance]), "cut below 3 stores");
-                pan.reads_as(NO_CHIP, number, 0, 0);
+                store.holds((status, counts) == (CUT, [0, programs, 0, allowance]), "cut below 3 stores");
+                store.reads_as(NO_CHIP, number, 0, 0);
             }
-            let mut pan = Pan::new(to, g);
-            let answer = pan.write_allowed(number, 0xa5, 3);
-            pan.holds(answer == (DONE, [0, 1, 0, 3]), "done with 3 stores");
-            pan.reads_as(NO_CHIP, number, 0xa5, 1);
+            let mut store = ComparedStore::new(to, g);
+            let answer = store.write_allowed(number, 0xa5, 3);
+            store.holds(answer == (DONE, [0, 1, 0, 3]), "done with 3 stores");
+            store.reads_as(NO_CHIP, number, 0xa5, 1);
         }
     }
 }
 
 // ---------------------------------------------------------------------------------------------
-// Thumbs on the scale
+// Faults to be refused
 // ---------------------------------------------------------------------------------------------
 
 /// Pages 0 to 3 written and committed, then page 0 again: page 1 is parity, the old page 0 and pages 2 and 3.
 fn outside_the_bitmap(to: &mut Comparison) {
-    let mut pan = Pan::new(to, bench_geometry());
+    let mut store = ComparedStore::new(to, bench_geometry());
     for (number, byte) in [(0, 0x21), (1, 0x42), (2, 0x84), (3, 0x48)] {
-        pan.write(number, byte);
+        store.write(number, byte);
     }
-    pan.commit(0);
-    pan.holds(pan.page_at(4, 0) == page(0xaf, 80, 0, 0, NONE), "parity of four pages");
-    pan.write(0, 0xe7);
-    pan.reads_as(1, 1, 0x42, 4);
-    pan.reads_as(0, 0, 0xe7, 0);
-    pan.reads_as(NO_CHIP, 0, 0xe7, 1);
+    store.commit(0);
+    store.holds(store.page_at(4, 0) == page(0xaf, 80, 0, 0, NONE), "parity of four pages");
+    store.write(0, 0xe7);
+    store.reads_as(1, 1, 0x42, 4);
+    store.reads_as(0, 0, 0xe7, 0);
+    store.reads_as(NO_CHIP, 0, 0xe7, 1);
 }
 
 /// A second write under one partial parity leaves the old number, and takes the current page out of the partial.
 fn second_write(to: &mut Comparison) {
-    let mut pan = Pan::new(to, bench_geometry());
-    pan.write(0, 0x21);
-    pan.write(1, 0x42);
-    pan.commit(0);
-    let first = pan.write(0, 0x84);
-    let second = pan.write(0, 0x18);
-    pan.holds((first, second) == ([0, 1, 0, 3], [1, 1, 0, 3]), "the second reads the current page");
-    let record = pan.record(0);
-    pan.holds(record[0..2] == [2, 0] && record[12..14] == [0, 0], "page 2 is current, page 0 old");
+    let mut store = ComparedStore::new(to, bench_geometry());
+    store.write(0, 0x21);
+    store.write(1, 0x42);
+    store.commit(0);
+    let first = store.write(0, 0x84);
+    let second = store.write(0, 0x18);
+    store.holds((first, second) == ([0, 1, 0, 3], [1, 1, 0, 3]), "the second reads the current page");
+    let record = store.record(0);
+    store.holds(record[0..2] == [2, 0] && record[12..14] == [0, 0], "page 2 is current, page 0 old");
     let slot = record[27] as u64;
-    pan.holds(pan.slot(slot) == [0x18; 16], "the partial parity is the last data");
-    pan.reads_as(0, 0, 0x18, 0);
-    pan.reads_as(1, 1, 0x42, 2);
+    store.holds(store.slot(slot) == [0x18; 16], "the partial parity is the last data");
+    store.reads_as(0, 0, 0x18, 0);
+    store.reads_as(1, 1, 0x42, 2);
 }
 
 /// Block 0 of chip 0 is full, and its last page is logical page 0. Six stores: phase 1, the copy, phase 2, the record,
 /// the erase, phase 0.
 fn collection_store_by_store(to: &mut Comparison) {
     for allowance in 0..=6 {
-        let mut pan = Pan::new(to, bench_geometry());
+        let mut store = ComparedStore::new(to, bench_geometry());
         for byte in 1..=4 {
-            pan.write(0, byte);
+            store.write(0, byte);
         }
-        let made = |store: u64| allowance >= store;
-        let (status, counts) = pan.call(Call::Collect { lost: NO_CHIP, chip: 0, allowance });
+        let made = |stores: u64| allowance >= stores;
+        let (status, counts) = store.call(Call::Collect { lost: NO_CHIP, chip: 0, allowance });
         let copies = made(2) as u64;
-        pan.holds(status == if made(6) { DONE } else { CUT }, "six stores");
-        pan.holds(counts == [copies, copies, made(5) as u64, allowance], "as the stores are counted");
+        store.holds(status == if made(6) { DONE } else { CUT }, "six stores");
+        store.holds(counts == [copies, copies, made(5) as u64, allowance], "as the stores are counted");
         let phase = if made(6) { 0 } else { made(1) as u8 + made(3) as u8 };
         let collection = [phase, 0, 0, 0, (phase > 0) as u8, 0];
-        pan.holds(pan.record(6) == [&collection[..], &[0; 26]].concat(), "phase, chip 0, blocks 0 and 1");
+        store.holds(store.record(6) == [&collection[..], &[0; 26]].concat(), "phase, chip 0, blocks 0 and 1");
         let copy = if made(2) { page(4, 68, 0, 0, [3, 0]) } else { vec![255; 24] };
-        pan.holds(pan.page_at(0, 4) == copy, "page 3 is copied to page 4");
+        store.holds(store.page_at(0, 4) == copy, "page 3 is copied to page 4");
         let current = if made(4) { 4 } else { 3 };
-        pan.holds(pan.record(0)[0..2] == [current, 0], "then the record names the copy");
+        store.holds(store.record(0)[0..2] == [current, 0], "then the record names the copy");
         let original = if made(5) { vec![255; 24] } else { page(4, 68, 0, 0, NONE) };
-        pan.holds(pan.page_at(0, 3) == original, "and only then the victim is erased");
-        pan.reads_as(NO_CHIP, 0, 4, 1);
-        pan.reads_as(0, 0, 4, 0);
+        store.holds(store.page_at(0, 3) == original, "and only then the victim is erased");
+        store.reads_as(NO_CHIP, 0, 4, 1);
+        store.reads_as(0, 0, 4, 0);
     }
 }
 
 /// A write that is cut before its record has stored its partial parity elsewhere than the one in use.
 fn slot_of_a_cut_write(to: &mut Comparison) {
-    let mut pan = Pan::new(to, bench_geometry());
-    pan.write(0, 0x3c);
-    let answer = pan.write_allowed(0, 0x99, 2);
-    pan.holds(answer == (CUT, [1, 1, 0, 2]), "page and slot are stored");
-    pan.holds(pan.record(0)[27] == 0 && pan.slot(0) == [0x3c; 16], "slot 0 is still in use");
-    pan.holds(pan.slot(1) == [0x99; 16], "slot 1 has the new partial parity");
-    pan.reads_as(NO_CHIP, 0, 0x3c, 1);
-    pan.reads_as(0, 0, 0x3c, 0);
+    let mut store = ComparedStore::new(to, bench_geometry());
+    store.write(0, 0x3c);
+    let answer = store.write_allowed(0, 0x99, 2);
+    store.holds(answer == (CUT, [1, 1, 0, 2]), "page and slot are stored");
+    store.holds(store.record(0)[27] == 0 && store.slot(0) == [0x3c; 16], "slot 0 is still in use");
+    store.holds(store.slot(1) == [0x99; 16], "slot 1 has the new partial parity");
+    store.reads_as(NO_CHIP, 0, 0x3c, 1);
+    store.reads_as(0, 0, 0x3c, 0);
 }

@@ -281,9 +281,9 @@ pub const BOOK: [&str; 16] = [
     "book held in part, of a large store",
 ];
 
-pub const WALLS: [&str; 9] = [
-    "buffers that end at a wall",
-    "buffers that begin at a wall",
+pub const BUFFERS: [&str; 9] = [
+    "buffers that end at a guard page",
+    "buffers that begin at a guard page",
     "buffers at any byte",
     "buffers that format may only read, sealed",
     "buffers that open may only read, sealed",

@@ -2,7 +2,6 @@
 //! that panics aborts the program, and so does one that takes longer than any call does.
 
 use layout::Geometry;
-use std::slice::{from_raw_parts as lent, from_raw_parts_mut as lent_mut};
 use std::sync::Once;
 use vazhettu::Report;
 
@@ -44,112 +43,39 @@ fn timed(call: impl FnOnce() -> Report) -> Report {
     report
 }
 
-// SAFETY of each: as the header asks, a pointer has as many bytes as its length says, and no two overlap.
-
-#[no_mangle]
-pub unsafe extern "C" fn vazhettu_format(
-    g: Geometry,
-    chips: *mut u8,
-    chips_len: usize,
-    records: *mut u8,
-    records_len: usize,
-    slots: *const u8,
-    slots_len: usize,
-    allowance: u64,
-) -> Report {
-    let (chips, records) = (lent_mut(chips, chips_len), lent_mut(records, records_len));
-    let slots = lent(slots, slots_len);
-    timed(|| vazhettu::vazhettu_format(g, chips, records, slots, allowance))
+/// The slice that a pointer and a length stand for.
+trait Pointer {
+    type Slice;
+    unsafe fn slice(self, len: usize) -> Self::Slice;
 }
 
-#[no_mangle]
-pub unsafe extern "C" fn vazhettu_open(
-    g: Geometry,
-    chips: *mut u8,
-    chips_len: usize,
-    records: *mut u8,
-    records_len: usize,
-    slots: *const u8,
-    slots_len: usize,
-    lost: u64,
-    allowance: u64,
-) -> Report {
-    let (chips, records) = (lent_mut(chips, chips_len), lent_mut(records, records_len));
-    let slots = lent(slots, slots_len);
-    timed(|| vazhettu::vazhettu_open(g, chips, records, slots, lost, allowance))
+impl<T: 'static> Pointer for *const T {
+    type Slice = &'static [T];
+
+    unsafe fn slice(self, len: usize) -> &'static [T] {
+        std::slice::from_raw_parts(self, len)
+    }
 }
 
-#[no_mangle]
-pub unsafe extern "C" fn vazhettu_read(
-    g: Geometry,
-    chips: *const u8,
-    chips_len: usize,
-    records: *const u8,
-    records_len: usize,
-    slots: *const u8,
-    slots_len: usize,
-    lost: u64,
-    page: u64,
-    buffer: *mut u8,
-    buffer_len: usize,
-) -> Report {
-    let (chips, records) = (lent(chips, chips_len), lent(records, records_len));
-    let (slots, buffer) = (lent(slots, slots_len), lent_mut(buffer, buffer_len));
-    timed(|| vazhettu::vazhettu_read(g, chips, records, slots, lost, page, buffer))
+impl<T: 'static> Pointer for *mut T {
+    type Slice = &'static mut [T];
+
+    unsafe fn slice(self, len: usize) -> &'static mut [T] {
+        std::slice::from_raw_parts_mut(self, len)
+    }
 }
 
-#[no_mangle]
-pub unsafe extern "C" fn vazhettu_write(
-    g: Geometry,
-    chips: *mut u8,
-    chips_len: usize,
-    records: *mut u8,
-    records_len: usize,
-    slots: *mut u8,
-    slots_len: usize,
-    lost: u64,
-    page: u64,
-    bytes: *const u8,
-    bytes_len: usize,
-    allowance: u64,
-) -> Report {
-    let (chips, records) = (lent_mut(chips, chips_len), lent_mut(records, records_len));
-    let (slots, bytes) = (lent_mut(slots, slots_len), lent(bytes, bytes_len));
-    timed(|| vazhettu::vazhettu_write(g, chips, records, slots, lost, page, bytes, allowance))
+macro_rules! exports {
+    ($($export:ident($($argument:ident: $type:ty $([$len:ident])?,)*) -> $answer:ty;)*) => {
+        $(
+            // SAFETY: as the header asks, a pointer has as many bytes as its length says, and no two overlap.
+            #[no_mangle]
+            pub unsafe extern "C" fn $export($($argument: $type, $($len: usize,)?)*) -> $answer {
+                $($(let $argument = $argument.slice($len);)?)*
+                timed(|| vazhettu::$export($($argument),*))
+            }
+        )*
+    };
 }
 
-#[no_mangle]
-pub unsafe extern "C" fn vazhettu_commit(
-    g: Geometry,
-    chips: *mut u8,
-    chips_len: usize,
-    records: *mut u8,
-    records_len: usize,
-    slots: *const u8,
-    slots_len: usize,
-    lost: u64,
-    stripe: u64,
-    allowance: u64,
-) -> Report {
-    let (chips, records) = (lent_mut(chips, chips_len), lent_mut(records, records_len));
-    let slots = lent(slots, slots_len);
-    timed(|| vazhettu::vazhettu_commit(g, chips, records, slots, lost, stripe, allowance))
-}
-
-#[no_mangle]
-pub unsafe extern "C" fn vazhettu_collect(
-    g: Geometry,
-    chips: *mut u8,
-    chips_len: usize,
-    records: *mut u8,
-    records_len: usize,
-    slots: *const u8,
-    slots_len: usize,
-    lost: u64,
-    chip: u64,
-    allowance: u64,
-) -> Report {
-    let (chips, records) = (lent_mut(chips, chips_len), lent_mut(records, records_len));
-    let slots = lent(slots, slots_len);
-    timed(|| vazhettu::vazhettu_collect(g, chips, records, slots, lost, chip, allowance))
-}
+include!("../exports.rs");
