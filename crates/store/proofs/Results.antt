@@ -64,7 +64,7 @@ failed {r} e h = sym e ∙ not-true r h
 -- a look that ends in a refusal
 pub seen-refused : {g : Geometry} {x r : List ℕ} {lost : ℕ} {look : Look} {n : Refusal} {check : Check} → look .check ≡ Failed n → Failed n ≡ check
     → (look .check ≡ check) × Seen g x r lost look
-seen-refused {n = n} e f = (e ∙ f, record { scans = λ p. not-passed n (sym e ∙ p) })
+seen-refused {n = n} e f = (e ∙ f, record { scans = λ p. not-passed n (sym e ∙ p); slots = λ p. not-passed n (sym e ∙ p) })
 
 -- rows 1 and 2 have passed: the geometry is within the limits, and the images fit it
 pub record BuffersFit (g : Geometry) (s : Images) : Type 0 where

@@ -1,5 +1,6 @@
 //! The calls of the store. Each answers what its definition says, for any numbers and any buffers.
 
+use checks::SlotScan;
 use checks::geometry_passes;
 use checks::lengths_pass;
 use checks::scan_records;
@@ -64,10 +65,11 @@ fn buffers_check(g: Geometry, chips: &[u8], records: &[u8], slots: &[u8]) -> Che
     Check::Passed
 }
 
-// What the rows about the images come to, and what the look at the spares has brought where they pass.
+// What the rows about the images come to, and what the looks at the spares and the records have brought where they pass.
 struct Look {
     check: Check,
     chips: [ChipScan; 7],
+    slots: SlotScan,
 }
 
 // A look that ends in a refusal.
@@ -81,9 +83,15 @@ fn refused(r: Refusal) -> Look
         victim: 0,
         fewest: 0,
     };
+    let unseen = SlotScan {
+        slotted: 0,
+        cheapest: Found::Nothing,
+        free: Found::Nothing,
+    };
     Look {
         check: Check::Failed(r),
         chips: [none; 7],
+        slots: unseen,
     }
 }
 
@@ -110,9 +118,11 @@ fn images_look(g: Geometry, chips: &[u8], records: &[u8], slots: &[u8], lost: us
         return refused(Refusal::Spares);
     }
     let scans = survey.chips;
+    let seen = scan.slots;
     Look {
         check: Check::Passed,
         chips: scans,
+        slots: seen,
     }
 }
 
@@ -256,6 +266,7 @@ pub fn write(
     let j = (page / g.n) as usize;
     let m = (page % g.n) as usize;
     let scans = look.chips;
+    let seen = look.slots;
     answer(write_member(
         chips,
         records,
@@ -265,6 +276,7 @@ pub fn write(
         m,
         bytes,
         scans,
+        seen,
         start(allowance),
     ))
 }

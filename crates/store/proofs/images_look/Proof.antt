@@ -58,9 +58,9 @@ returns-4 c =
 
 returns-5 : tie.Need-returns-5
 returns-5 c =
-    let survey = c .before .before .before .scan-spares .ensures in (
-      images-next _ _ _ true true true (sym (c .before .before .before .before .before .before .before .before .before .before .before .buffers-check .ensures) ∙ c .before .before .before .before .before .before .before .before .before .enum-told .given .1) (not-false _ (c .before .before .before .before .before .before .before .before .if1 .left)) (passed (c .before .before .before .before .before .before .before .scan-records .ensures .0) (c .before .before .before .before .before .if2 .left)) (passed (survey .0) (c .before .if3 .left)),
-      record { scans = λ _. survey .1 },
+    let survey = c .before .before .before .before .scan-spares .ensures in (
+      images-next _ _ _ true true true (sym (c .before .before .before .before .before .before .before .before .before .before .before .before .buffers-check .ensures) ∙ c .before .before .before .before .before .before .before .before .before .before .enum-told .given .1) (not-false _ (c .before .before .before .before .before .before .before .before .before .if1 .left)) (passed (c .before .before .before .before .before .before .before .before .scan-records .ensures .0) (c .before .before .before .before .before .before .if2 .left)) (passed (survey .0) (c .before .before .if3 .left)),
+      record { scans = λ _. survey .1; slots = λ _. c .before .before .before .before .before .before .before .before .scan-records .ensures .2 },
     )
 
 pub images-look-spec : {M : Type 1} → statement M

@@ -88,11 +88,11 @@ start-requires c κs = search needs
 
 write-member-requires : tie.Need-write-member-requires
 write-member-requires c κs =
-    let a = c .before .before .before .before .before .before .before .before .before .before .before .before .before .before .before .before .before .before .before .before .before .args in
+    let a = c .before .before .before .before .before .before .before .before .before .before .before .before .before .before .before .before .before .before .before .before .before .before .args in
     let l = layoutOf (a .g) in
-    let h = store-ready (a .g) _ _ (sym (c .before .before .before .before .before .before .before .before .before .before .before .before .before .settled-look .ensures .0) ∙ c .before .before .before .before .before .before .before .before .before .before .before .enum-told .given .1) (c .before .before .before .before .before .before .before .if3 .left) in
-    let low = stripe-fits l (h .within-limits) (a .page) (c .before .before .before .before .before .before .before .before .before .if1 .left) in
-    (h .settled, h .slots-fit, low, member-fits l (h .within-limits) (a .page), c .before .before .before .before .before .before .before .before .if2 .left, c .start .ensures .1, victims _ _ _ (sym (c .before .before .before .before .before .before .before .before .before .before .before .before .before .settled-look .ensures .0) ∙ c .before .before .before .before .before .before .before .before .before .before .before .enum-told .given .1) (c .before .before .before .before .before .before .before .if3 .left) (c .before .before .before .before .before .before .before .before .before .before .before .enum-told .given .1) (c .before .before .before .before .before .before .before .before .before .before .before .before .before .settled-look .ensures .1))
+    let h = store-ready (a .g) _ _ (sym (c .before .before .before .before .before .before .before .before .before .before .before .before .before .before .settled-look .ensures .0) ∙ c .before .before .before .before .before .before .before .before .before .before .before .before .enum-told .given .1) (c .before .before .before .before .before .before .before .before .if3 .left) in
+    let low = stripe-fits l (h .within-limits) (a .page) (c .before .before .before .before .before .before .before .before .before .before .if1 .left) in
+    (h .settled, h .slots-fit, low, member-fits l (h .within-limits) (a .page), c .before .before .before .before .before .before .before .before .before .if2 .left, c .start .ensures .1, victims _ _ _ (sym (c .before .before .before .before .before .before .before .before .before .before .before .before .before .before .settled-look .ensures .0) ∙ c .before .before .before .before .before .before .before .before .before .before .before .before .enum-told .given .1) (c .before .before .before .before .before .before .before .before .if3 .left) (c .before .before .before .before .before .before .before .before .before .before .before .before .enum-told .given .1) (c .before .before .before .before .before .before .before .before .before .before .before .before .before .before .settled-look .ensures .1), c .before .before .before .before .before .before .before .before .before .before .before .before .before .before .settled-look .ensures .1 .slots (c .before .before .before .before .before .before .before .before .before .before .before .before .enum-told .given .1))
 
 answer-requires : tie.Need-answer-requires
 answer-requires c κs = search needs
@@ -108,11 +108,11 @@ same-length-15 c = search needs
 
 returns-5 : tie.Need-returns-5
 returns-5 c =
-    let a = c .before .before .before .before .before .before .before .before .before .before .before .before .before .before .before .before .before .before .before .before .before .before .before .before .before .before .before .before .before .args in
-    let passed = sym (c .before .before .before .before .before .before .before .before .before .before .before .before .before .before .before .before .before .before .before .before .before .settled-look .ensures .0) ∙ c .before .before .before .before .before .before .before .before .before .before .before .before .before .before .before .before .before .before .before .enum-told .given .1 in
-    let h = store-ready (a .g) _ _ passed (c .before .before .before .before .before .before .before .before .before .before .before .before .before .before .before .if3 .left) in
+    let a = c .before .before .before .before .before .before .before .before .before .before .before .before .before .before .before .before .before .before .before .before .before .before .before .before .before .before .before .before .before .before .args in
+    let passed = sym (c .before .before .before .before .before .before .before .before .before .before .before .before .before .before .before .before .before .before .before .before .before .before .settled-look .ensures .0) ∙ c .before .before .before .before .before .before .before .before .before .before .before .before .before .before .before .before .before .before .before .before .enum-told .given .1 in
+    let h = store-ready (a .g) _ _ passed (c .before .before .before .before .before .before .before .before .before .before .before .before .before .before .before .before .if3 .left) in
     rw (c .answer .ensures)
-    (write-ran (layoutOf (a .g)) _ _ _ _ _ _ (c .before .before .before .before .before .before .before .write-member .result) _ (h .within-limits) passed (c .before .before .before .before .before .before .before .before .before .before .before .before .before .before .before .before .before .if1 .left) (c .before .before .before .before .before .before .before .before .before .before .before .before .before .before .before .before .if2 .left) (c .before .before .before .before .before .before .before .before .before .before .before .before .before .before .before .if3 .left)
+    (write-ran (layoutOf (a .g)) _ _ _ _ _ _ (c .before .before .before .before .before .before .before .write-member .result) _ (h .within-limits) passed (c .before .before .before .before .before .before .before .before .before .before .before .before .before .before .before .before .before .before .if1 .left) (c .before .before .before .before .before .before .before .before .before .before .before .before .before .before .before .before .before .if2 .left) (c .before .before .before .before .before .before .before .before .before .before .before .before .before .before .before .before .if3 .left)
     (c .before .before .before .before .before .before .before .before .start .ensures .0) (c .before .before .before .before .before .before .before .write-member .ensures))
 
 pub write-spec : {M : Type 1} → statement M
