@@ -6,13 +6,16 @@ use codec::bit_of;
 use codec::collection_at;
 use codec::collection_ends;
 use codec::record_at;
+use costs::cost_of;
+use costs::set_bits;
 use layout::Geometry;
 use slices::number_at;
+use units::Found;
 ghost use mathlib.Core.Path.{_≡_};
 ghost use mathlib.Core.Bool.{true};
 ghost use Prim.Native.Nat.{_+_, _*_, _≤_, _<_};
 ghost use lib.ListN.{length};
-ghost use Rattle.units.specs.Look.{allBelow};
+ghost use Rattle.units.specs.Look.{allBelow, firstBelow};
 ghost use Rattle.layout.specs.Layout.{layoutOf, limits};
 ghost use Rattle.layout.specs.Record.{recordAt};
 ghost use Rattle.layout.specs.Collection.{collectionAt};
@@ -21,6 +24,7 @@ ghost use Rattle.rules.specs.Sound.{memberSound, recordSound, collectionSound, 
 ghost use Rattle.codec.specs.Fit.{RecordsFit};
 ghost use Rattle.codec.specs.Views.{recordFrom};
 ghost use Rattle.checks.specs.Plain.{Ranges, WordAt, writtenIn, Glanced};
+ghost use Rattle.checks.specs.Slots.{slotScan, Adds, cheapestIn, unmarked};
 ghost use Rattle.names.specs.Stamps.{recordNames, namesIn};
 
 // Whether the geometry is within the limits. No product is formed before its factors are known to be small.
@@ -253,26 +257,118 @@ fn collection_passes(g: Geometry, records: &[u8]) -> bool
             & !(co.victim == co.destination))
 }
 
+// What the records tell of the slots.
+pub struct SlotScan {
+    // how many records have one
+    pub slotted: usize,
+    // the stripe of least cost among them
+    pub cheapest: Found,
+    // the lowest free slot
+    pub free: Found,
+}
+
 // What a pass over the records brings.
 pub struct RecordsScan {
     pub sound: bool,
     // page numbers in all records
     pub names: usize,
+    pub slots: SlotScan,
 }
 
-// Whether the records are sound, and how many page numbers they have: one pass, with a table of the slots seen.
+// What is known of the records passed.
+struct Tally {
+    // each is sound by itself
+    sound: bool,
+    // no slot in two of them
+    own: bool,
+    // how many have a slot
+    slotted: usize,
+    // the stripe of least cost among those, and its cost: 8 where there is none
+    stripe: usize,
+    least: usize,
+}
+
+// The tally with record j; taken, where a record before it has its slot.
+fn with_record(g: Geometry, j: usize, e: StripeRecord, taken: bool, t: Tally) -> Tally
+    requires { ⌜ (limits (layoutOf g) ≡ true) × (t .slotted < 65536) ⌝ }
+    ensures { λ n. ⌜ Adds (layoutOf g) j e taken t n ⌝ }
+{
+    let sound = t.sound & record_passes(g, e);
+    if e.slot == 255 {
+        return Tally {
+            sound,
+            own: t.own,
+            slotted: t.slotted,
+            stripe: t.stripe,
+            least: t.least,
+        };
+    }
+    let own = t.own & !taken;
+    let slotted = t.slotted + 1;
+    let cost = cost_of(g, set_bits(g, e.bitmap));
+    if cost < t.least {
+        return Tally {
+            sound,
+            own,
+            slotted,
+            stripe: j,
+            least: cost,
+        };
+    }
+    Tally {
+        sound,
+        own,
+        slotted,
+        stripe: t.stripe,
+        least: t.least,
+    }
+}
+
+// The stripe of least cost in a tally.
+fn cheapest_in(t: Tally) -> Found
+    ensures { λ r. ⌜ r ≡ cheapestIn t ⌝ }
+{
+    if t.least < 8 {
+        Found::At(t.stripe)
+    } else {
+        Found::Nothing
+    }
+}
+
+// The lowest of the slots 0 to m that is not marked.
+fn lowest_unmarked(marks: &[bool; 256], m: usize) -> Found
+    requires { ⌜ m ≤ 254 ⌝ }
+    ensures { λ r. ⌜ r ≡ firstBelow (m + 1) (unmarked (now (marks .entry))) ⌝ }
+{
+    let mut i = 0;
+    while i <= m {
+        if !marks[i] {
+            return Found::At(i);
+        }
+        i += 1;
+    }
+    Found::Nothing
+}
+
+// Whether the records are sound, how many page numbers they have, and what they tell of the slots: one pass, with a table of the slots
+// seen. Of a record that is found plain only the page numbers matter.
 pub fn scan_records(g: Geometry, records: &[u8]) -> RecordsScan
     requires { ⌜ RecordsFit g (now records) ⌝ }
     ensures { λ r. ⌜ (r .sound ≡ recordsSound (layoutOf g) (recordAt (layoutOf g) (now (records .entry))) (collectionAt (layoutOf g) (now (records .entry))))
-        × (r .names ≡ namesIn (layoutOf g) (recordAt (layoutOf g) (now (records .entry))) (g .s)) ⌝ }
+        × (r .names ≡ namesIn (layoutOf g) (recordAt (layoutOf g) (now (records .entry))) (g .s))
+        × (r .slots ≡ slotScan (layoutOf g) (recordAt (layoutOf g) (now (records .entry)))) ⌝ }
 {
     let s = g.s as usize;
     let most = g.m as usize;
     let tops = ranges(g);
     let mut seen = [false; 256];
-    let mut sound = true;
-    let mut own = true;
-    let mut slotted: usize = 0;
+    let mut tally = Tally {
+        sound: true,
+        own: true,
+        slotted: 0,
+        stripe: 0,
+        least: 8,
+    };
     let mut names: usize = 0;
     let mut j = 0;
     while j < s {
@@ -281,21 +377,23 @@ pub fn scan_records(g: Geometry, records: &[u8]) -> RecordsScan
             names += look.names;
         } else {
             let e = record_at(records, g, j);
-            sound = sound & record_passes(g, e);
-            names += names_of(e);
             let slot = e.slot;
-            let has = slot != 255;
-            own = own & (!has | !seen[slot]);
+            let next = with_record(g, j, e, seen[slot], tally);
+            tally = next;
             seen[slot] = true;
-            if has {
-                slotted += 1;
-            }
+            names += names_of(e);
         }
         j += 1;
     }
-    let whole = sound & own & (slotted <= most) & collection_passes(g, records);
+    let sound = tally.sound & tally.own & (tally.slotted <= most) & collection_passes(g, records);
+    let slots = SlotScan {
+        slotted: tally.slotted,
+        cheapest: cheapest_in(tally),
+        free: lowest_unmarked(&seen, most),
+    };
     RecordsScan {
-        sound: whole,
+        sound,
         names,
+        slots,
     }
 }

@@ -1,16 +1,15 @@
-//! What a commit chooses and stores: the cost of a stripe, the cheapest one, the new parity page at its place.
+//! What a commit stores: the new parity page at its place, and the record.
 
 use codec::NONE;
 use codec::PARITY;
 use codec::Spare;
 use codec::StripeRecord;
-use codec::bit_of;
-use codec::bitmap_at;
 use codec::page_data;
 use codec::parity_chip;
 use codec::record_at;
-use codec::slot_at;
 use codec::slot_data;
+use costs::most_in_partial;
+use costs::set_bits;
 use device::program;
 use device::store_record;
 use gather::chosen;
@@ -19,82 +18,19 @@ use layout::Geometry;
 use slices::copy;
 use slices::xor_into;
 use stores::Progress;
-use units::Found;
 ghost use mathlib.Core.Path.{_≡_};
 ghost use mathlib.Core.Bool.{true};
 ghost use Prim.Native.Nat.{_≤_, _<_};
 ghost use lib.ListN.{length};
-ghost use Rattle.layout.specs.Layout.{layoutOf, limits, pages};
+ghost use Rattle.layout.specs.Layout.{layoutOf, pages};
 ghost use Rattle.layout.specs.Page.{pageAt};
-ghost use Rattle.layout.specs.Record.{Record, recordAt, hasSlot};
+ghost use Rattle.layout.specs.Record.{recordAt, hasSlot};
 ghost use Rattle.layout.specs.Images.{slotAt};
 ghost use Rattle.rules.specs.Sound.{recordSound};
-ghost use Rattle.rules.specs.Commit.{setBits, mostInPartial, costOf, cheapest as cheapestOf, newParity, newParityReads, committed as committedRecord, commitAt};
+ghost use Rattle.rules.specs.Commit.{newParity, newParityReads, committed as committedRecord, commitAt};
 ghost use Rattle.stores.specs.Allowance.{Sane, Ran, images};
 ghost use Rattle.codec.specs.Fit.{ChipsFit, RecordsFit, SlotsFit};
 ghost use Rattle.codec.specs.Views.{recordFrom, SmallRecord};
-
-// How many members are in a bitmap.
-fn set_bits(g: Geometry, bitmap: usize) -> usize
-    requires { ⌜ limits (layoutOf g) ≡ true ⌝ }
-    ensures { λ r. ⌜ ((e : Record) → e .bitmap ≡ bitmap → r ≡ setBits (layoutOf g) e) × (r ≤ g .n) ⌝ }
-{
-    let n = g.n as usize;
-    let mut p: usize = 0;
-    let mut m = 0;
-    while m < n {
-        if bit_of(bitmap, m) {
-            p += 1;
-        }
-        m += 1;
-    }
-    p
-}
-
-// Whether at least half of the members, rounded up, are in the partial parity.
-fn most_in_partial(g: Geometry, p: usize) -> bool
-    requires { ⌜ limits (layoutOf g) ≡ true ⌝ }
-    ensures { λ r. ⌜ r ≡ mostInPartial (layoutOf g) p ⌝ }
-{
-    let n = g.n as usize;
-    (n + 1) / 2 <= p
-}
-
-// The cost of a commit with so many members in the bitmap.
-fn cost_of(g: Geometry, p: usize) -> usize
-    requires { ⌜ (limits (layoutOf g) ≡ true) × (p ≤ g .n) ⌝ }
-    ensures { λ r. ⌜ (r ≡ costOf (layoutOf g) p) × (r < 8) ⌝ }
-{
-    let n = g.n as usize;
-    if most_in_partial(g, p) { n - p } else { p + 1 }
-}
-
-// Of the stripes with a slot the one of least cost, the lowest on ties.
-pub fn cheapest(records: &[u8], g: Geometry) -> Found
-    requires { ⌜ RecordsFit g (now records) ⌝ }
-    ensures { λ r. ⌜ r ≡ cheapestOf (layoutOf g) (recordAt (layoutOf g) (now (records .entry))) ⌝ }
-{
-    let s = g.s as usize;
-    let mut stripe: usize = 0;
-    // no cost is as high as 8
-    let mut least: usize = 8;
-    let mut j = 0;
-    while j < s {
-        if slot_at(records, g, j) != 255 {
-            let cost = cost_of(g, set_bits(g, bitmap_at(records, g, j)));
-            if cost < least {
-                stripe = j;
-                least = cost;
-            }
-        }
-        j += 1;
-    }
-    if least < 8 {
-        Found::At(stripe)
-    } else {
-        Found::Nothing
-    }
-}
 
 // Work becomes the new parity of stripe j, and the answer is how many pages were read for it.
 fn new_parity(

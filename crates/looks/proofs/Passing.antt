@@ -27,6 +27,8 @@ use Rattle.rules.proofs.Soundness.RecordChecks.{record-pass}
 use Rattle.codec.specs.Fit.{ChipsFit, RecordsFit, SlotsFit}
 use Rattle.names.specs.Checked.{Checked, Settled}
 use Rattle.names.proofs.Statements.{tags-pass}
+use Rattle.checks.specs.declared.SlotScan.{SlotScan}
+use Rattle.checks.specs.Slots.{slotScan}
 use Rattle.spares.specs.declared.ChipScan.{ChipScan}
 use Rattle.spares.specs.Scans.{chipScans}
 use Rattle.space.specs.Victims.{Victims}
@@ -64,9 +66,10 @@ pub look-refused : (l : Layout) (s : Images) (lost : ℕ) {look : Look} {r : Ref
 look-refused l s lost e f = rw (sym f) e
 
 -- one that finds what there is
-pub look-passed : (l : Layout) (s : Images) (lost : ℕ) {k : Check} {chips : List ChipScan} → Passed ≡ k
-    → chips ≡ chipScans l (recordAt l (s .records)) (pageAt l (s .chips)) lost (l .B) → record { check = Passed; chips = chips } ≡ lookOf l s lost k
-look-passed l s lost e f = rw (sym e, f)
+pub look-passed : (l : Layout) (s : Images) (lost : ℕ) {k : Check} {chips : List ChipScan} {slots : SlotScan} → Passed ≡ k
+    → chips ≡ chipScans l (recordAt l (s .records)) (pageAt l (s .chips)) lost (l .B) → slots ≡ slotScan l (recordAt l (s .records))
+    → record { check = Passed; chips = chips; slots = slots } ≡ lookOf l s lost k
+look-passed l s lost e f g = rw (sym e, f, g)
 
 -- and passes more rows
 pub look-kept : (l : Layout) (s : Images) (lost : ℕ) {look : Look} {k more : Check} → k ≡ Passed → Passed ≡ more → look ≡ lookOf l s lost k → look ≡ lookOf l s lost more
@@ -184,6 +187,10 @@ pub victims : (g : Geometry) (s : Images) (lost : ℕ) {look : Look} → checked
 victims g s lost e none-lost seen =
     let h = store-ready g s lost e none-lost in
     victims-known (tags-pass g (s .chips) (s .records) (h .settled .checked)) lost (omega (arith, h .within-limits .members-high)) (ap (λ (o : Look). o .chips) (rw e at seen))
+
+-- and what the records tell of the slots
+pub slots-seen : (l : Layout) (s : Images) (lost : ℕ) {look : Look} {k : Check} → k ≡ Passed → look ≡ lookOf l s lost k → look .slots ≡ slotScan l (recordAt l (s .records))
+slots-seen l s lost e seen = ap (λ (o : Look). o .slots) (rw e at seen)
 
 -- a page that there is, without the product of N and S
 pub page-test : (n s page : ℕ) → 0 < n → ltb (page / n) s ≡ ltb page (n * s)

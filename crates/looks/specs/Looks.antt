@@ -2,6 +2,7 @@
 use mathlib.Core.List.{List}
 use lib.ListN.{replicate}
 use Prim.Native.Nat.{ℕ}
+use Rattle.units.specs.declared.Found.the-variants.{Nothing}
 use Rattle.layout.specs.Layout.{Layout}
 use Rattle.layout.specs.Page.{pageAt}
 use Rattle.layout.specs.Record.{recordAt}
@@ -9,6 +10,7 @@ use Rattle.layout.specs.Images.{Images}
 use Rattle.rules.specs.declared.Refusal.{Refusal}
 use Rattle.rules.specs.declared.Check.{Check}
 use Rattle.rules.specs.declared.Check.the-variants.{Passed, Failed}
+use Rattle.checks.specs.Slots.{slotScan}
 use Rattle.spares.specs.Scans.{unscanned, chipScans}
 use Rattle.looks.specs.declared.Look.{Look}
 
@@ -19,10 +21,19 @@ below (Failed r) rest = Failed r
 
 -- where the rows come to a refusal, nothing was found
 abbrev pub nothing : Refusal → Look
-nothing r = record { check = Failed r; chips = replicate 7 unscanned }
+nothing r =
+    record {
+      check = Failed r;
+      chips = replicate 7 unscanned;
+      slots = record { slotted = 0; cheapest = Nothing; free = Nothing };
+    }
 
--- where they pass, the scan of each chip but the lost one
+-- where they pass: the scan of each chip but the lost one, and what the records tell of the slots
 abbrev pub lookOf : Layout → Images → ℕ → Check → Look
 lookOf l s lost Passed =
-    record { check = Passed; chips = chipScans l (recordAt l (s .records)) (pageAt l (s .chips)) lost (l .B) }
+    record {
+      check = Passed;
+      chips = chipScans l (recordAt l (s .records)) (pageAt l (s .chips)) lost (l .B);
+      slots = slotScan l (recordAt l (s .records));
+    }
 lookOf l s lost (Failed r) = nothing r

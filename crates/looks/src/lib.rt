@@ -1,6 +1,7 @@
 //! The look at the images with which every call begins: what the rows of the table about them come to, and what the one pass over
 //! records and spares has found.
 
+use checks::SlotScan;
 use checks::geometry_passes;
 use checks::lengths_pass;
 use checks::scan_records;
@@ -10,6 +11,7 @@ use rules::Check;
 use rules::Refusal;
 use spares::ChipScan;
 use spares::scan_spares;
+use units::Found;
 ghost use mathlib.Core.Path.{_≡_};
 ghost use Prim.Native.Nat.{_*_};
 ghost use lib.Dec.{ltb};
@@ -24,6 +26,8 @@ pub struct Look {
     pub check: Check,
     // of each chip but the lost one
     pub chips: [ChipScan; 7],
+    // of the records
+    pub slots: SlotScan,
 }
 
 // Rows 1 and 2 of the table of refusals.
@@ -50,9 +54,15 @@ fn refused(r: Refusal) -> Look
         victim: 0,
         fewest: 0,
     };
+    let unseen = SlotScan {
+        slotted: 0,
+        cheapest: Found::Nothing,
+        free: Found::Nothing,
+    };
     Look {
         check: Check::Failed(r),
         chips: [none; 7],
+        slots: unseen,
     }
 }
 
@@ -79,9 +89,11 @@ pub fn images_look(g: Geometry, chips: &[u8], records: &[u8], slots: &[u8], lost
         return refused(Refusal::Spares);
     }
     let scans = survey.chips;
+    let seen = scan.slots;
     Look {
         check: Check::Passed,
         chips: scans,
+        slots: seen,
     }
 }
 

@@ -1,3 +1,4 @@
 -- Where there is room.
+pub mod FreeSlot
 pub mod Places
 pub mod Room

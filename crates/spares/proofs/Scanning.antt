@@ -18,7 +18,7 @@ use Rattle.units.proofs.Counts.{count-start, count-le}
 use Rattle.units.proofs.Looks.{at-last, by-test, by-order, by-found, both, all-cong, least-start, least-skips, least-here, least-better, least-keeps, least-at}
 use Rattle.units.proofs.Tests.{and-both, both-and, or-right, cond-same}
 use Rattle.layout.specs.declared.Geometry.{Geometry}
-use Rattle.layout.specs.Layout.{Layout, layoutOf, limits, none, pages, pageIn}
+use Rattle.layout.specs.Layout.{Layout, layoutOf, limits, none, pages}
 use Rattle.layout.specs.Page.{Page}
 use Rattle.layout.specs.Record.{Record}
 use Rattle.layout.proofs.Limits.{within}
@@ -131,32 +131,31 @@ pub scan-start : (l : Layout) (r : ℕ → Record) (x : ℕ → Page) (c : ℕ)
 unfolding chipScan allBelow someBelow whenFound
 scan-start l r x c = rw (zero-mul, count-start (stamped l r x c), least-start (loose l r x c) (stampedCount l r x c))
 
+-- s with one block more, of which n is the scan; the victim is v, with f named pages
+abbrev withBlock : ChipScan → Scan → ℕ → ℕ → ChipScan
+withBlock s n v f = record { ordered = s .ordered && n .ordered; clean = s .clean || n .clean; named = s .named + n .named; victim = v; fewest = f }
+
 module _ (l : Layout) (r : ℕ → Record) (x : ℕ → Page) (c b : ℕ) {s : ChipScan} {n : Scan} (h : s ≡ chipScan l r x c b) (e : n ≡ blockScan l r x c b) where
   open Layout l using (K)
 
-  -- with block b, of which n is the scan, there are no more names than pages
+  -- no more names than pages
   pub scan-few : s .named + n .named ≤ (b + 1) * K
   unfolding chipScan blockScan stampedCount
-  scan-few =
-      rw (h, e, add-one, suc-mul)
-      (omega (arith, count-le (b * K) (stamped l r x c), count-le K (stampedIn l r x c b)))
+  scan-few = rw (h, e, add-one, suc-mul) (omega (arith, count-le (b * K) (stamped l r x c), count-le K (stampedIn l r x c b)))
 
   -- the victim is the one found
   scan-more : (found : Found) {v f : ℕ} → leastBelow (suc b) (loose l r x c) (stampedCount l r x c) ≡ found
-      → v ≡ whenFound found (λ i. i) 0 → f ≡ whenFound found (stampedCount l r x c) K
-      → record { ordered = s .ordered && n .ordered; clean = s .clean || n .clean; named = s .named + n .named; victim = v; fewest = f } ≡ chipScan l r x c (b + 1)
+      → v ≡ whenFound found (λ i. i) 0 → f ≡ whenFound found (stampedCount l r x c) K → withBlock s n v f ≡ chipScan l r x c (b + 1)
   unfolding chipScan blockScan allBelow someBelow stampedCount
   scan-more found is v f = rw (v, f, h, e, ← is, add-one, suc-mul, count-from (b * K) K (stamped l r x c))
 
   -- block b, where it is full and has fewer names than any before
-  pub scan-takes : n .full && ltb (n .named) (s .fewest) ≡ true
-      → record { ordered = s .ordered && n .ordered; clean = s .clean || n .clean; named = s .named + n .named; victim = b; fewest = n .named } ≡ chipScan l r x c (b + 1)
+  pub scan-takes : n .full && ltb (n .named) (s .fewest) ≡ true → withBlock s n b (n .named) ≡ chipScan l r x c (b + 1)
   unfolding chipScan blockScan loose whenFound
   scan-takes t = scan-more (At b) (least-takes (fullBlock l x) (stampedCount l r x c) K b (rw (h, e) at t)) refl (rw e)
 
   -- or the one before
-  pub scan-stays : n .full && ltb (n .named) (s .fewest) ≡ false
-      → record { ordered = s .ordered && n .ordered; clean = s .clean || n .clean; named = s .named + n .named; victim = s .victim; fewest = s .fewest } ≡ chipScan l r x c (b + 1)
+  pub scan-stays : n .full && ltb (n .named) (s .fewest) ≡ false → withBlock s n (s .victim) (s .fewest) ≡ chipScan l r x c (b + 1)
   unfolding chipScan blockScan loose
   scan-stays t =
       let same = least-stays (fullBlock l x) (stampedCount l r x c) K b (rw (h, e) at t) in
@@ -164,6 +163,7 @@ module _ (l : Layout) (r : ℕ → Record) (x : ℕ → Page) (c b : ℕ) {s : C
 
 -- ---- all chips
 
+-- of a list for seven chips, what it has for chip c
 at-seven : (f : ℕ → ChipScan) (c : ℕ) → c < 7 → getD (map f (0 ∷ 1 ∷ 2 ∷ 3 ∷ 4 ∷ 5 ∷ 6 ∷ [])) c unscanned ≡ f c
 at-seven f zero h = refl
 at-seven f (suc zero) h = refl

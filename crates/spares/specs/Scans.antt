@@ -107,19 +107,16 @@ module _ (l : Layout) where
           fewest = whenFound (leastBelow b loose stampedCount) stampedCount K;
         }
 
-  -- of every chip, with the pages y of each; no block is looked at of the lost one, and of those that are not there
-  module _ (r : ℕ → Record) (y : ℕ → ℕ → Page) (lost : ℕ) where
-    abbrev pub blocksOf : ℕ → ℕ → ℕ
-    blocksOf b c = cond (eqb c lost || ltb N c) 0 b
+  -- of chip c, with the pages y of each chip: the blocks below b; no block of the lost chip, and of one that is not there
+  abbrev pub scanOf : (ℕ → Record) → (ℕ → ℕ → Page) → ℕ → ℕ → ℕ → ChipScan
+  scanOf r y lost b c = chipScan r (y c) c (cond (eqb c lost || ltb N c) 0 b)
 
-    abbrev pub scanOf : ℕ → ℕ → ChipScan
-    scanOf b c = chipScan r (y c) c (blocksOf b c)
+  -- of all chips
+  unfoldable pub chipScans : (ℕ → Record) → (ℕ → ℕ → Page) → ℕ → ℕ → List ChipScan
+  chipScans r y lost b = map (scanOf r y lost b) (0 ∷ 1 ∷ 2 ∷ 3 ∷ 4 ∷ 5 ∷ 6 ∷ [])
 
-    unfoldable pub chipScans : ℕ → List ChipScan
-    chipScans b = map (scanOf b) (0 ∷ 1 ∷ 2 ∷ 3 ∷ 4 ∷ 5 ∷ 6 ∷ [])
-
-  -- and whether the spares are sound
-  unfoldable pub survey : (ℕ → Record) → (ℕ → ℕ → Page) → Collection → ℕ → Survey
+  -- with whether the spares are sound
+  abbrev pub survey : (ℕ → Record) → (ℕ → ℕ → Page) → Collection → ℕ → Survey
   survey r y co lost = record { sound = sparesSound l r y co lost; chips = chipScans r y lost B }
 
   -- what a collection under way asks of its chip, with the chip's pages x

@@ -50,7 +50,7 @@ pub struct ChipScan {
     pub clean: bool,
     // pages that the records name, each found by its own stamp
     pub named: usize,
-    // the full block with fewest named pages, and how many it has; K where every page of every full block is named
+    // the full block with fewest named pages, and how many it has; 0 and K where every page of every full block is named
     pub victim: usize,
     pub fewest: usize,
 }
@@ -58,7 +58,7 @@ pub struct ChipScan {
 // What one look at every spare brings.
 pub struct Survey {
     pub sound: bool,
-    // for each chip but the lost one
+    // for each chip; of the lost one and of those that are not there, no block
     pub chips: [ChipScan; 7],
 }
 

@@ -44,11 +44,11 @@ use Rattle.rules.proofs.Lists.EachCall.{open-lost}
 use Rattle.rules.proofs.Lists.Answers.{answerOf, ran-outcome}
 use Rattle.codec.specs.Fit.{ChipsFit, RecordsFit, SlotsFit}
 use Rattle.names.specs.Checked.{Settled}
-use Rattle.spares.specs.declared.ChipScan.{ChipScan}
+use Rattle.checks.specs.Slots.{slotScan}
 use Rattle.space.specs.Victims.{Victims}
 use Rattle.looks.specs.declared.Look.{Look}
 use Rattle.looks.specs.Looks.{below, lookOf}
-use Rattle.looks.proofs.Passing.{rows-below, look-check, ImagesFit, images-fit, StoreReady, store-ready, victims}
+use Rattle.looks.proofs.Passing.{rows-below, look-check, ImagesFit, images-fit, StoreReady, store-ready, victims, slots-seen}
 
 -- rows below those of a look, as the code goes on from it
 pub rows-told : (l : Layout) (s : Images) (lost : ℕ) (above rest : List Row) {look : Look} {k : Check} → look ≡ lookOf l s lost (checked above)
@@ -115,14 +115,15 @@ pub record ReadReady (g : Geometry) (s : Images) (page : ℕ) (buffer : List ℕ
 short : (k n : ℕ) → k ≤ 4 * n + 13 → n ≤ 128 → k ≤ 2 ^ 59
 short k n h low = omega arith
 
--- one of them that passes its rows: what holds of the images, and the victims that the look has found
-pub record Ready (g : Geometry) (s : Images) (scans : List ChipScan) : Type 0 where
+-- one of them that passes its rows: what holds of the images, and what the look has found
+pub record Ready (g : Geometry) (s : Images) (look : Look) : Type 0 where
   pub store : StoreReady g s
-  pub known : Victims g (s .chips) (s .records) scans
+  pub known : Victims g (s .chips) (s .records) (look .chips)
+  pub slots : look .slots ≡ slotScan (layoutOf g) (recordAt (layoutOf g) (s .records))
 
 pub ready : (g : Geometry) (s : Images) (lost : ℕ) {look : Look} → look ≡ lookOf (layoutOf g) s lost (checked (settledRows (layoutOf g) s lost))
-    → checked (settledRows (layoutOf g) s lost) ≡ Passed → lost ≡ noChip → Ready g s (look .chips)
-ready g s lost seen e none-lost = record { store = store-ready g s lost e none-lost; known = victims g s lost e none-lost seen }
+    → checked (settledRows (layoutOf g) s lost) ≡ Passed → lost ≡ noChip → Ready g s look
+ready g s lost seen e none-lost = record { store = store-ready g s lost e none-lost; known = victims g s lost e none-lost seen; slots = slots-seen (layoutOf g) s lost e seen }
 
 -- the rows of commit and collect below rows 1 to 6, up to row 9
 abbrev pub freeRows : Bool → ℕ → List Row
@@ -176,7 +177,7 @@ module _ (g : Geometry) (s : Images) (lost : ℕ) where
         (sym (rows-below (settledRows l s lost ++ pageRows l page (length xs)) (chipSetRow l lost ∷ [])))
 
     pub write-ready : {look : Look} → look ≡ lookOf l s lost (checked (settledRows l s lost)) → checked (writeRows l s lost page xs) ≡ Passed
-        → Ready g s (look .chips) × (page / g .n < g .s) × (page % g .n < g .n) × (length xs ≡ g .w)
+        → Ready g s look × (page / g .n < g .s) × (page % g .n < g .n) × (length xs ≡ g .w)
     unfolding writeRows
     write-ready seen e =
         let (none-lost, o) = write-accepted l s lost page xs e in
@@ -202,7 +203,7 @@ module _ (g : Geometry) (s : Images) (lost : ℕ) where
     free-told seen e = rows-told l s lost (settledRows l s lost) (freeRows fits lost) seen e
 
     pub free-ready : {look : Look} → look ≡ lookOf l s lost (checked (settledRows l s lost)) → checked (settledRows l s lost ++ freeRows fits lost) ≡ Passed
-        → Ready g s (look .chips) × (fits ≡ true)
+        → Ready g s look × (fits ≡ true)
     free-ready seen e =
         let (top, rest) = both-passed (settledRows l s lost) (freeRows fits lost) e in
         let h = rows-passed (freeRows fits lost) rest in

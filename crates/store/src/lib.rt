@@ -153,6 +153,7 @@ pub fn write(
     let j = (page / g.n) as usize;
     let m = (page % g.n) as usize;
     let scans = look.chips;
+    let seen = look.slots;
     answer(write_member(
         chips,
         records,
@@ -162,6 +163,7 @@ pub fn write(
         m,
         bytes,
         scans,
+        seen,
         start(allowance),
     ))
 }

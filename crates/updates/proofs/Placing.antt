@@ -24,20 +24,23 @@ use Rattle.stores.proofs.Prefixes.{leads-weaken}
 use Rattle.stores.proofs.Allowances.{ran-none, ran-then, ran-then-cut, ran-whole}
 use Rattle.rules.specs.Place.{placeOf, roomSteps, atPlace, placed}
 use Rattle.rules.specs.Commit.{recordCost, cheapest, commitSteps}
-use Rattle.rules.specs.Write.{commitOwed, owedSteps}
+use Rattle.rules.specs.Write.{commitOwed, owedSteps, lowestFreeSlot}
 use Rattle.rules.specs.Sound.{recordSound}
 use Rattle.rules.proofs.Soundness.Statements.{Usable, Sound, rest-collects}
 use Rattle.rules.proofs.Soundness.RecordChecks.{record-pass}
 use Rattle.rules.proofs.Stores.Kept.{Kept}
 use Rattle.rules.proofs.Data.Carries.{Carries}
-use Rattle.rules.proofs.Space.Room.{place-at}
+use Rattle.rules.proofs.Space.Room.{place-at, free-slot}
+use Rattle.rules.proofs.Space.FreeSlot.{free-stays, frees, free-lowered}
 use Rattle.rules.proofs.Lists.Collecting.{HasPlace, room-leads}
+use Rattle.rules.proofs.Lists.Committing.{Committed, commit-closes}
 use Rattle.rules.proofs.Lists.Writing.{Ready, owed-leads}
 use Rattle.codec.specs.Fit.{SlotsFit}
 use Rattle.names.specs.Checked.{Settled}
 use Rattle.spares.specs.declared.ChipScan.{ChipScan}
 use Rattle.spares.specs.Scans.{unscanned}
 use Rattle.space.specs.Victims.{victimIn, VictimFor, Victims}
+use Rattle.updates.specs.Slots.{lowerOf}
 use Rattle.names.proofs.Statements.{usable, stripes, chip-is-sound, sound, checked}
 
 -- sound images at rest pass the tests
@@ -93,6 +96,10 @@ module _ {g : Geometry} {x r : List ℕ} (h : Settled g x r) where
         pub room-slotted : {j : ℕ} → j < g .s → hasSlot (recordAt l r j) ≡ true → hasSlot (recordAt l r₁ j) ≡ true
         room-slotted {j} low e = same-slotted (recordAt l r j) (recordAt l r₁ j) (kept .0 .slot j low) ∙ e
 
+        -- and the lowest free slot is the same
+        pub room-free : lowestFreeSlot l (recordAt l r₁) ≡ lowestFreeSlot l (recordAt l r)
+        room-free = free-stays l (recordAt l r) (recordAt l r₁) (kept .0 .slot)
+
       module _ (fill : ℕ → Images → List Step) where
         -- where it is cut, that is all
         pub placed-cut : q .cut ≡ true → Ran l p (placed l c fill s) q s t
@@ -117,6 +124,16 @@ module _ {g : Geometry} {x r : List ℕ} (h : Settled g x r) where
         (leads-weaken l (Carries l) (Carries l) (Ready l j) (λ v. Carries l s v × Ready l j v) (owedSteps l j s) s (λ v k. k) (λ v k o. (k, o))
         (owed-leads l u j s f (h .at-rest)) .ends) in
         settled-at g h w (k .sound) (ready .rest)
+
+    -- stripe k was to be committed; where that is not cut, the lowest free slot is the lower of the one before and that of stripe k
+    pub commit-lowers : {k : ℕ} → k < g .s → hasSlot (recordAt l r k) ≡ true → {p q : Progress} {x₁ r₁ : List ℕ}
+        → Ran l p (commitSteps l k s) q s (images x₁ r₁ z) → q .cut ≡ false
+        → lowestFreeSlot l (recordAt l r₁) ≡ lowerOf (lowestFreeSlot l (recordAt l r)) (recordAt l r k .slot)
+    commit-lowers {k} low has {p} {q} {x₁} {r₁} first going =
+        let w = images x₁ r₁ z in
+        let c : Committed l k s w = rw (ran-whole l p q (commitSteps l k s) s w first going) (commit-closes l u k low s f (h .at-rest) has .whole) in
+        let (i, e, _, _) = free-slot l (u .within) (recordAt l r) (collectionAt l r) (f .stripes) in
+        rw e (free-lowered l (u .within) (frees l (recordAt l r₁) (f .stripes) k low has (c .fewer) (c .others)) i e)
 
 -- a chip by another name
 pub placed-on : (l : Layout) {c d : ℕ} → c ≡ d → (fill : ℕ → Images → List Step) {p q : Progress} {s t : Images} → Ran l p (placed l c fill s) q s t → Ran l p (placed l d fill s) q s t

@@ -1,9 +1,10 @@
 //! Commits and writes as a whole: room on the chip, the place, and what is stored there.
 
+use checks::SlotScan;
 use codec::member_chip;
 use codec::parity_chip;
+use codec::slot_at;
 use collect::make_room;
-use commit::cheapest;
 use commit::commit_at;
 use layout::Geometry;
 use space::place_on;
@@ -15,7 +16,7 @@ use units::Found;
 use write::is_owed;
 use write::write_at;
 ghost use mathlib.Core.Path.{_≡_};
-ghost use mathlib.Core.Bool.{true};
+ghost use mathlib.Core.Bool.{true, false};
 ghost use Prim.Native.Nat.{_<_};
 ghost use lib.ListN.{length};
 ghost use Rattle.layout.specs.Layout.{layoutOf};
@@ -23,11 +24,13 @@ ghost use Rattle.layout.specs.Rotation.{memberChip};
 ghost use Rattle.layout.specs.Record.{recordAt, hasSlot};
 ghost use Rattle.rules.specs.Place.{placed};
 ghost use Rattle.rules.specs.Commit.{commitSteps};
-ghost use Rattle.rules.specs.Write.{commitOwed, owedSteps, writeAt, writeMember};
+ghost use Rattle.rules.specs.Write.{commitOwed, owedSteps, lowestFreeSlot, writeAt, writeMember};
 ghost use Rattle.stores.specs.Allowance.{Sane, Ran, images};
 ghost use Rattle.codec.specs.Fit.{SlotsFit};
 ghost use Rattle.names.specs.Checked.{Settled};
+ghost use Rattle.checks.specs.Slots.{slotScan};
 ghost use Rattle.space.specs.Victims.{VictimFor, Victims};
+ghost use Rattle.updates.specs.Slots.{lowerOf};
 
 // Commits stripe j, where the victim of each chip is known.
 pub fn commit_stripe(
@@ -56,7 +59,24 @@ pub fn commit_stripe(
     }
 }
 
-// Commits the stripe of least cost, which is owed for a write to stripe j.
+// The lower of the free slot, if any, and slot t.
+fn lower(free: Found, t: usize) -> Found
+    ensures { λ r. ⌜ r ≡ lowerOf free t ⌝ }
+{
+    match free {
+        Found::At(i) => if i < t { Found::At(i) } else { Found::At(t) },
+        Found::Nothing => Found::At(t),
+    }
+}
+
+// What the commit leaves that is owed before a write.
+struct Owed {
+    run: Progress,
+    // the lowest free slot, where the run is not cut
+    free: Found,
+}
+
+// Commits the stripe of least cost, which is owed for a write to stripe j. Its slot is free then.
 fn commit_owed(
     chips: &mut [u8],
     records: &mut [u8],
@@ -64,20 +84,32 @@ fn commit_owed(
     g: Geometry,
     j: usize,
     scans: [ChipScan; 7],
+    seen: SlotScan,
     p: Progress,
-) -> Progress
+) -> Owed
     requires { ⌜ Settled g (now chips) (now records) × SlotsFit g (now slots) × Sane p
-        × (commitOwed (layoutOf g) (recordAt (layoutOf g) (now records)) j ≡ true) × Victims g (now chips) (now records) scans ⌝ }
+        × (commitOwed (layoutOf g) (recordAt (layoutOf g) (now records)) j ≡ true) × Victims g (now chips) (now records) scans
+        × (seen ≡ slotScan (layoutOf g) (recordAt (layoutOf g) (now records))) ⌝ }
     ensures { λ r. ⌜ Ran (layoutOf g) p (owedSteps (layoutOf g) j (images (now (chips .entry)) (now (records .entry)) (now (slots .entry))))
-        r (images (now (chips .entry)) (now (records .entry)) (now (slots .entry))) (images (now (chips .exit)) (now (records .exit)) (now (slots .entry))) ⌝ }
+        (r .run) (images (now (chips .entry)) (now (records .entry)) (now (slots .entry))) (images (now (chips .exit)) (now (records .exit)) (now (slots .entry)))
+        × (r .run .cut ≡ false → r .free ≡ lowestFreeSlot (layoutOf g) (recordAt (layoutOf g) (now (records .exit)))) ⌝ }
 {
-    match cheapest(records, g) {
-        Found::At(k) => commit_stripe(chips, records, slots, g, k, scans, p),
-        Found::Nothing => p,
+    let cheapest = seen.cheapest;
+    let free = seen.free;
+    match cheapest {
+        Found::At(k) => {
+            let t = slot_at(records, g, k);
+            let run = commit_stripe(chips, records, slots, g, k, scans, p);
+            Owed {
+                run,
+                free: lower(free, t),
+            }
+        }
+        Found::Nothing => Owed { run: p, free },
     }
 }
 
-// Finds a place for member m of stripe j and writes it there; v is the victim of its chip.
+// Finds a place for member m of stripe j and writes it there; v is the victim of its chip, and free the lowest free slot.
 fn place_member(
     chips: &mut [u8],
     records: &mut [u8],
@@ -87,10 +119,12 @@ fn place_member(
     m: usize,
     bytes: &[u8],
     v: Found,
+    free: Found,
     p: Progress,
 ) -> Progress
     requires { ⌜ Settled g (now chips) (now records) × SlotsFit g (now slots) × (j < g .s) × (m < g .n) × (length (now bytes) ≡ g .w) × Sane p
-        × VictimFor g (now chips) (now records) (memberChip (layoutOf g) j m) v ⌝ }
+        × VictimFor g (now chips) (now records) (memberChip (layoutOf g) j m) v
+        × (free ≡ lowestFreeSlot (layoutOf g) (recordAt (layoutOf g) (now records))) ⌝ }
     ensures { λ r. ⌜ Ran (layoutOf g) p
         (placed (layoutOf g) (memberChip (layoutOf g) j m) (writeAt (layoutOf g) j m (now (bytes .entry))) (images (now (chips .entry)) (now (records .entry)) (now (slots .entry))))
         r (images (now (chips .entry)) (now (records .entry)) (now (slots .entry))) (images (now (chips .exit)) (now (records .exit)) (now (slots .exit))) ⌝ }
@@ -102,12 +136,12 @@ fn place_member(
         return run;
     }
     match place_on(chips, g, c) {
-        Found::At(q) => write_at(chips, records, slots, g, j, m, bytes, q, run),
+        Found::At(q) => write_at(chips, records, slots, g, j, m, bytes, q, free, run),
         Found::Nothing => run,
     }
 }
 
-// Writes member m of stripe j, where the victim of each chip is known.
+// Writes member m of stripe j, where the victim of each chip is known, and what the records tell of the slots.
 pub fn write_member(
     chips: &mut [u8],
     records: &mut [u8],
@@ -117,25 +151,29 @@ pub fn write_member(
     m: usize,
     bytes: &[u8],
     scans: [ChipScan; 7],
+    seen: SlotScan,
     p: Progress,
 ) -> Progress
     requires { ⌜ Settled g (now chips) (now records) × SlotsFit g (now slots) × (j < g .s) × (m < g .n) × (length (now bytes) ≡ g .w) × Sane p
-        × Victims g (now chips) (now records) scans ⌝ }
+        × Victims g (now chips) (now records) scans × (seen ≡ slotScan (layoutOf g) (recordAt (layoutOf g) (now records))) ⌝ }
     ensures { λ r. ⌜ Ran (layoutOf g) p
         (writeMember (layoutOf g) j m (now (bytes .entry)) (images (now (chips .entry)) (now (records .entry)) (now (slots .entry))))
         r (images (now (chips .entry)) (now (records .entry)) (now (slots .entry))) (images (now (chips .exit)) (now (records .exit)) (now (slots .exit))) ⌝ }
 {
-    let c = member_chip(g, j, m);
-    if !is_owed(records, g, j) {
-        let v = victim_in(g, scans[c]);
-        return place_member(chips, records, slots, g, j, m, bytes, v, p);
+    let chip = member_chip(g, j, m);
+    if !is_owed(records, g, j, seen.slotted) {
+        let v = victim_in(g, scans[chip]);
+        let free = seen.free;
+        return place_member(chips, records, slots, g, j, m, bytes, v, free, p);
     }
-    let run = commit_owed(chips, records, slots, g, j, scans, p);
+    let owed = commit_owed(chips, records, slots, g, j, scans, seen, p);
+    let run = owed.run;
     // past a cut no store is made, and the images are not those that the next part is worked out from
     if run.cut {
         return run;
     }
     // a commit changes what the records name, and so the victims
-    let v = victim_on(chips, records, g, c);
-    place_member(chips, records, slots, g, j, m, bytes, v, run)
+    let v = victim_on(chips, records, g, chip);
+    let free = owed.free;
+    place_member(chips, records, slots, g, j, m, bytes, v, free, run)
 }

@@ -22,9 +22,10 @@ ghost use mathlib.Core.Path.{_≡_};
 ghost use mathlib.Core.Bool.{true};
 ghost use Prim.Native.Nat.{_≤_, _<_};
 ghost use lib.ListN.{length};
+ghost use Rattle.units.specs.Look.{countBelow};
 ghost use Rattle.layout.specs.Layout.{layoutOf, pages};
 ghost use Rattle.layout.specs.Page.{pageAt};
-ghost use Rattle.layout.specs.Record.{recordAt};
+ghost use Rattle.layout.specs.Record.{recordAt, slotted as slottedAt};
 ghost use Rattle.layout.specs.Images.{slotAt};
 ghost use Rattle.rules.specs.Sound.{recordSound};
 ghost use Rattle.rules.specs.Write.{commitOwed, lowestFreeSlot, newPartial, newPartialReads, written as writtenRecord, slotSteps, writeAt};
@@ -32,48 +33,12 @@ ghost use Rattle.stores.specs.Allowance.{Sane, Ran, images};
 ghost use Rattle.codec.specs.Fit.{ChipsFit, RecordsFit, SlotsFit};
 ghost use Rattle.codec.specs.Views.{recordFrom, SmallRecord};
 
-// Whether stripe j has no slot and M records have.
-pub fn is_owed(records: &[u8], g: Geometry, j: usize) -> bool
-    requires { ⌜ RecordsFit g (now records) × (j < g .s) ⌝ }
+// Whether stripe j has no slot and M records have; slotted is how many have one.
+pub fn is_owed(records: &[u8], g: Geometry, j: usize, slotted: usize) -> bool
+    requires { ⌜ RecordsFit g (now records) × (j < g .s) × (slotted ≡ countBelow (g .s) (slottedAt (recordAt (layoutOf g) (now records)))) ⌝ }
     ensures { λ r. ⌜ r ≡ commitOwed (layoutOf g) (recordAt (layoutOf g) (now (records .entry))) j ⌝ }
 {
-    if slot_at(records, g, j) != 255 {
-        return false;
-    }
-    let s = g.s as usize;
-    let mut slotted: usize = 0;
-    let mut i = 0;
-    while i < s {
-        if slot_at(records, g, i) != 255 {
-            slotted += 1;
-        }
-        i += 1;
-    }
-    slotted == g.m as usize
-}
-
-// The lowest slot that no record has.
-fn free_slot(records: &[u8], g: Geometry) -> Found
-    requires { ⌜ RecordsFit g (now records) ⌝ }
-    ensures { λ r. ⌜ r ≡ lowestFreeSlot (layoutOf g) (recordAt (layoutOf g) (now (records .entry))) ⌝ }
-{
-    let s = g.s as usize;
-    let m = g.m as usize;
-    let mut taken = [false; 256];
-    let mut j = 0;
-    while j < s {
-        let slot = slot_at(records, g, j);
-        taken[slot] = true;
-        j += 1;
-    }
-    let mut i = 0;
-    while i <= m {
-        if !taken[i] {
-            return Found::At(i);
-        }
-        i += 1;
-    }
-    Found::Nothing
+    (slot_at(records, g, j) == 255) & (slotted == g.m as usize)
 }
 
 // Work becomes the new partial parity of stripe j with the data of member m, and the answer is how many pages were read for it.
@@ -123,7 +88,7 @@ fn written(e: StripeRecord, m: usize, q: usize, i: usize) -> StripeRecord
     next
 }
 
-// Stores the new partial parity and the record of stripe j, for a page that stands at q.
+// Stores the new partial parity in the lowest free slot, and the record of stripe j, for a page that stands at q.
 fn store_partial(
     chips: &[u8],
     records: &mut [u8],
@@ -133,14 +98,16 @@ fn store_partial(
     m: usize,
     bytes: &[u8],
     q: usize,
+    free: Found,
     p: Progress,
 ) -> Progress
     requires { ⌜ ChipsFit g (now chips) × RecordsFit g (now records) × SlotsFit g (now slots) × (j < g .s) × (m < g .n) × (length (now bytes) ≡ g .w)
-        × (q < pages (layoutOf g)) × (recordSound (layoutOf g) (recordAt (layoutOf g) (now records) j) ≡ true) × Sane p ⌝ }
+        × (q < pages (layoutOf g)) × (recordSound (layoutOf g) (recordAt (layoutOf g) (now records) j) ≡ true) × Sane p
+        × (free ≡ lowestFreeSlot (layoutOf g) (recordAt (layoutOf g) (now records))) ⌝ }
     ensures { λ r. ⌜ Ran (layoutOf g) p (slotSteps (layoutOf g) j m (now (bytes .entry)) q (images (now (chips .entry)) (now (records .entry)) (now (slots .entry))))
         r (images (now (chips .entry)) (now (records .entry)) (now (slots .entry))) (images (now (chips .entry)) (now (records .exit)) (now (slots .exit))) ⌝ }
 {
-    match free_slot(records, g) {
+    match free {
         Found::At(i) => {
             let mut work = [0u8; 4096];
             let w = g.w as usize;
@@ -153,7 +120,7 @@ fn store_partial(
     }
 }
 
-// Writes member m of stripe j at page q of its chip.
+// Writes member m of stripe j at page q of its chip; free is the lowest free slot.
 pub fn write_at(
     chips: &mut [u8],
     records: &mut [u8],
@@ -163,10 +130,12 @@ pub fn write_at(
     m: usize,
     bytes: &[u8],
     q: usize,
+    free: Found,
     p: Progress,
 ) -> Progress
     requires { ⌜ ChipsFit g (now chips) × RecordsFit g (now records) × SlotsFit g (now slots) × (j < g .s) × (m < g .n) × (length (now bytes) ≡ g .w)
-        × (q < pages (layoutOf g)) × (recordSound (layoutOf g) (recordAt (layoutOf g) (now records) j) ≡ true) × Sane p ⌝ }
+        × (q < pages (layoutOf g)) × (recordSound (layoutOf g) (recordAt (layoutOf g) (now records) j) ≡ true) × Sane p
+        × (free ≡ lowestFreeSlot (layoutOf g) (recordAt (layoutOf g) (now records))) ⌝ }
     ensures { λ r. ⌜ Ran (layoutOf g) p (writeAt (layoutOf g) j m (now (bytes .entry)) q (images (now (chips .entry)) (now (records .entry)) (now (slots .entry))))
         r (images (now (chips .entry)) (now (records .entry)) (now (slots .entry))) (images (now (chips .exit)) (now (records .exit)) (now (slots .exit))) ⌝ }
 {
@@ -177,5 +146,5 @@ pub fn write_at(
         copied: NONE,
     };
     let run = program(chips, g, member_chip(g, j, m), q, bytes, tag, 0, p);
-    store_partial(chips, records, slots, g, j, m, bytes, q, run)
+    store_partial(chips, records, slots, g, j, m, bytes, q, free, run)
 }

@@ -4,7 +4,6 @@ use mathlib.Core.Bool.{true, false}
 use borrow.Author.Needs.{needs}
 use borrow.Author.Tests.{not-true, not-false}
 use Rattle.spares.specs.declared.Survey.{Survey}
-use Rattle.spares.specs.Scans.{survey}
 use Rattle.looks.proofs.Passing.{passed, failed, look-refused, look-passed, buffers-fit, images-first, images-next}
 use Rattle.looks.proofs.images_look.Statement.{statement}
 use Rattle.looks.proofs.images_look.Tie as tie
@@ -33,18 +32,17 @@ scan-spares-requires c κs =
     (fit .chips, record { fit = fit .records; pass = passed (c .before .before .before .scan-records .ensures .0) (c .before .if2 .left) }, c .collection-at .ensures, c .before .before .before .scan-records .ensures .1)
 
 returns-4 : tie.Need-returns-4
-unfolding survey
 returns-4 c =
     look-refused _ _ _ (c .refused4 .ensures)
     (images-next _ _ _ true true false (sym (c .before .before .before .before .before .before .before .before .before .before .before .buffers-check .ensures) ∙ c .before .before .before .before .before .before .before .before .before .enum-told .given .1) (not-false _ (c .before .before .before .before .before .before .before .before .if1 .left)) (passed (c .before .before .before .before .before .before .before .scan-records .ensures .0) (c .before .before .before .before .before .if2 .left)) (failed (ap (λ (s : Survey). s .sound) (c .before .before .before .scan-spares .ensures)) (c .before .if3 .taken)))
 
 returns-5 : tie.Need-returns-5
-unfolding survey
 returns-5 c =
-    let seen = c .before .before .before .scan-spares .ensures in
+    let seen = c .before .before .before .before .scan-spares .ensures in
+    let records = c .before .before .before .before .before .before .before .before .scan-records .ensures in
     look-passed _ _ _
-    (images-next _ _ _ true true true (sym (c .before .before .before .before .before .before .before .before .before .before .before .buffers-check .ensures) ∙ c .before .before .before .before .before .before .before .before .before .enum-told .given .1) (not-false _ (c .before .before .before .before .before .before .before .before .if1 .left)) (passed (c .before .before .before .before .before .before .before .scan-records .ensures .0) (c .before .before .before .before .before .if2 .left)) (passed (ap (λ (s : Survey). s .sound) seen) (c .before .if3 .left)))
-    (ap (λ (s : Survey). s .chips) seen)
+    (images-next _ _ _ true true true (sym (c .before .before .before .before .before .before .before .before .before .before .before .before .buffers-check .ensures) ∙ c .before .before .before .before .before .before .before .before .before .before .enum-told .given .1) (not-false _ (c .before .before .before .before .before .before .before .before .before .if1 .left)) (passed (records .0) (c .before .before .before .before .before .before .if2 .left)) (passed (ap (λ (s : Survey). s .sound) seen) (c .before .before .if3 .left)))
+    (ap (λ (s : Survey). s .chips) seen) (records .2)
 
 pub images-look-spec : {M : Type 1} → statement M
 images-look-spec =

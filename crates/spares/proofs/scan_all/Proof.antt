@@ -18,20 +18,11 @@ Inv-loop chips records g lost blocks scans₀ b₀ scans b =
 abbrev μ-loop : tie.MeasureT-loop
 μ-loop chips records g lost blocks scans₀ b₀ scans b = g .b - b
 
-no-block-requires : tie.Need-no-block-requires Inv-loop μ-loop
-no-block-requires c κs = search needs
-
 loop-holds : tie.Need-loop-holds Inv-loop μ-loop
 loop-holds c = (omega arith, all-start _ _ _ _ (λ i. c .no-block .ensures _ _ i))
 
 with-row-requires : tie.Need-with-row-requires Inv-loop μ-loop
-with-row-requires c κs = let h = c .before .before .before .before .before .pre in (h .0, h .1, c .loop-test .taken, c .before .loop .inv .1)
-
-add-b : tie.Need-add-b Inv-loop μ-loop
-add-b c = omega arith
-
-loop-less : tie.Need-loop-less Inv-loop μ-loop
-loop-less c = omega arith
+with-row-requires c κs = (search needs, search needs, omega arith, c .before .loop .inv .1)
 
 loop-again : tie.Need-loop-again Inv-loop μ-loop
 loop-again c = (omega arith, c .with-row .ensures)
@@ -45,10 +36,10 @@ scan-all-spec =
     (tie.spec
     Inv-loop
     μ-loop
-    no-block-requires
+    (λ c κs. search needs)
     loop-holds
     with-row-requires
-    add-b
-    loop-less
+    (λ c. omega arith)
+    (λ c. omega arith)
     loop-again
     returns)

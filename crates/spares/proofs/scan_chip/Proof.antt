@@ -17,20 +17,11 @@ Inv-loop chips records g c blocks scan₀ b₀ scan b =
 abbrev μ-loop : tie.MeasureT-loop
 μ-loop chips records g c blocks scan₀ b₀ scan b = g .b - b
 
-no-block-requires : tie.Need-no-block-requires Inv-loop μ-loop
-no-block-requires c κs = search needs
-
 loop-holds : tie.Need-loop-holds Inv-loop μ-loop
 loop-holds c = (omega arith, c .no-block .ensures _ _ _)
 
 with-block-requires : tie.Need-with-block-requires Inv-loop μ-loop
-with-block-requires c κs = let h = c .before .before .before .before .before .pre in (h .0, h .1, h .2, c .loop-test .taken, c .before .loop .inv .1)
-
-add-b : tie.Need-add-b Inv-loop μ-loop
-add-b c = omega arith
-
-loop-less : tie.Need-loop-less Inv-loop μ-loop
-loop-less c = omega arith
+with-block-requires c κs = (search needs, search needs, search needs, omega arith, c .before .loop .inv .1)
 
 loop-again : tie.Need-loop-again Inv-loop μ-loop
 loop-again c = (omega arith, c .with-block .ensures)
@@ -44,10 +35,10 @@ scan-chip-spec =
     (tie.spec
     Inv-loop
     μ-loop
-    no-block-requires
+    (λ c κs. search needs)
     loop-holds
     with-block-requires
-    add-b
-    loop-less
+    (λ c. omega arith)
+    (λ c. omega arith)
     loop-again
     returns)

@@ -1,11 +1,6 @@
 use borrow.Author.Needs.{needs}
-use Rattle.spares.specs.Scans.{survey}
 use Rattle.spares.proofs.scan_spares.Statement.{statement}
 use Rattle.spares.proofs.scan_spares.Tie as tie
 
-returns : tie.Need-returns
-unfolding survey
-returns c = cc
-
 pub scan-spares-spec : {M : Type 1} → statement M
-scan-spares-spec = tie.close (tie.spec (λ c κs. search needs) (λ c κs. search needs) returns)
+scan-spares-spec = tie.close (tie.spec (λ c κs. search needs) (λ c κs. search needs) (λ c. cc))

@@ -6,9 +6,6 @@ use Rattle.spares.proofs.Scanning.{start-low, scan-few, scan-takes, sca
 use Rattle.spares.proofs.with_block.Statement.{statement}
 use Rattle.spares.proofs.with_block.Tie as tie
 
-scan-block-requires : tie.Need-scan-block-requires
-scan-block-requires c κs = search needs
-
 add-t11 : tie.Need-add-t11
 add-t11 c =
     let s = c .before .before .before .before .before .before .before .before .before in
@@ -21,4 +18,4 @@ returns-2 : tie.Need-returns-2
 returns-2 c = scan-stays _ _ _ _ _ (c .before .before .before .before .before .before .before .before .before .before .before .before .before .pre .4) (c .before .before .before .before .before .before .before .before .before .before .scan-block .ensures) (c .if1 .left)
 
 pub with-block-spec : {M : Type 1} → statement M
-with-block-spec = tie.close (tie.spec scan-block-requires add-t11 returns returns-2)
+with-block-spec = tie.close (tie.spec (λ c κs. search needs) add-t11 returns returns-2)

@@ -48,9 +48,6 @@ array-set-from-next c = seven (c .before .before .before)
 add-c : tie.Need-add-c Inv-loop μ-loop
 add-c c = omega (arith, seven (c .before))
 
-loop-less : tie.Need-loop-less Inv-loop μ-loop
-loop-less c = omega arith
-
 loop-again : tie.Need-loop-again Inv-loop μ-loop
 loop-again c =
     let o = c .before .before .loop in (
@@ -77,6 +74,6 @@ with-row-spec =
     mul-next
     array-set-from-next
     add-c
-    loop-less
+    (λ c. omega arith)
     loop-again
     returns)

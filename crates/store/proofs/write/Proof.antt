@@ -32,11 +32,11 @@ rem-m c = omega (arith, write-ready _ _ _ _ _ (c .before .before .before .before
 
 write-member-requires : tie.Need-write-member-requires
 write-member-requires c κs =
-    let (h, stripe, member, whole) = write-ready _ _ _ _ _ (c .before .before .before .before .before .before .before .before .before .before .before .settled-look .ensures) (passed (c .before .before .before .before .before .before .before)) in
-    (h .store .settled, h .store .slots-fit, stripe, member, whole, c .start .ensures .1, h .known)
+    let (h, stripe, member, whole) = write-ready _ _ _ _ _ (c .before .before .before .before .before .before .before .before .before .before .before .before .settled-look .ensures) (passed (c .before .before .before .before .before .before .before .before)) in
+    (h .store .settled, h .store .slots-fit, stripe, member, whole, c .start .ensures .1, h .known, h .slots)
 
 returns-2 : tie.Need-returns-2
-returns-2 c = rw (c .answer .ensures) (write-ran _ _ _ _ _ _ (passed (c .before .before .before .before .before .before .before .before .before .before .before .before .before .before .before)) (c .before .before .before .before .before .before .before .before .start .ensures .0) (c .before .before .before .before .before .before .before .write-member .ensures))
+returns-2 c = rw (c .answer .ensures) (write-ran _ _ _ _ _ _ (passed (c .before .before .before .before .before .before .before .before .before .before .before .before .before .before .before .before)) (c .before .before .before .before .before .before .before .before .start .ensures .0) (c .before .before .before .before .before .before .before .write-member .ensures))
 
 pub write-spec : {M : Type 1} → statement M
 write-spec =

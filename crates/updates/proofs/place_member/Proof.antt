@@ -5,7 +5,7 @@ use borrow.Author.Needs.{needs}
 use Rattle.layout.specs.Layout.{layoutOf}
 use Rattle.rules.specs.Write.{writeAt}
 use Rattle.collect.proofs.Rooms.{ordered}
-use Rattle.updates.proofs.Placing.{record-passes, place-fits, room-settled, placed-cut, placed-at, placed-nowhere, placed-on}
+use Rattle.updates.proofs.Placing.{record-passes, place-fits, room-settled, room-free, placed-cut, placed-at, placed-nowhere, placed-on}
 use Rattle.updates.proofs.place_member.Statement.{statement}
 use Rattle.updates.proofs.place_member.Tie as tie
 
@@ -60,6 +60,7 @@ write-at-requires c κs =
       place-fits r (on .1) (sym (c .before .before .before .before .before .before .place-on .ensures) ∙ c .before .before .before .before .q .given .1),
       record-passes r (s .pre .2),
       first .sane,
+      s .pre .7 ∙ sym (room-free (s .pre .0) (s .pre .1) (on .1) first (c .before .before .before .before .before .before .before .before .if1 .left)),
     )
 
 enum-told : tie.Need-enum-told

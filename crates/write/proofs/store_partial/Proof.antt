@@ -19,12 +19,6 @@ use Rattle.write.proofs.Steps.{steps-none, steps-found}
 use Rattle.write.proofs.store_partial.Statement.{statement}
 use Rattle.write.proofs.store_partial.Tie as tie
 
-free-slot-requires : tie.Need-free-slot-requires
-free-slot-requires c κs = search needs
-
-enum-known-i : tie.Need-enum-known-i
-enum-known-i c = search needs
-
 -- the calls, back to what the function was called with
 abbrev partial : tie.After-store-slot → tie.After-new-partial
 partial c = c .before .before .before .before .before
@@ -32,32 +26,23 @@ partial c = c .before .before .before .before .before
 abbrev entry : tie.After-new-partial → tie.After-record-at
 entry c = c .before .before .before
 
-abbrev slot : tie.After-record-at → tie.After-i
+abbrev slot : tie.After-record-at → tie.After-free
 slot c = c .before .before .before
 
-abbrev start : tie.After-i → tie.Start
-start c = c .before .before .before .before .before .before .before .before
+abbrev start : tie.After-free → tie.Start
+start c = c .before .before .before .before .before .before
 
 -- the slot that is found is the lowest free one
-found : (c : tie.After-i)
+found : (c : tie.After-free)
     → let a = start c .args in
-    lowestFreeSlot (layoutOf (a .g)) (recordAt (layoutOf (a .g)) (now (a .records))) ≡ At (c .i .given .0 .0)
-found c = sym (c .before .before .free-slot .ensures) ∙ c .i .given .1
+    lowestFreeSlot (layoutOf (a .g)) (recordAt (layoutOf (a .g)) (now (a .records))) ≡ At (c .free .given .0 .0)
+found c = sym (start c .pre .9) ∙ c .free .given .1
 
 -- and one of the M + 1
-fits : (c : tie.After-i) → c .i .given .0 .0 ≤ start c .args .g .m
+fits : (c : tie.After-free) → c .free .given .0 .0 ≤ start c .args .g .m
 fits c =
     let a = start c .args in
-    free-fits (a .g) (recordAt (layoutOf (a .g)) (now (a .records))) (c .i .given .0 .0) (found c)
-
-record-at-requires : tie.Need-record-at-requires
-record-at-requires c κs = search needs
-
-sub-new-partial : tie.Need-sub-new-partial
-sub-new-partial c = search needs
-
-part-work-start : tie.Need-part-work-start
-part-work-start c = search needs
+    free-fits (a .g) (recordAt (layoutOf (a .g)) (now (a .records))) (c .free .given .0 .0) (found c)
 
 -- the page fits into the work page
 narrow : (s : tie.Start) → s .args .g .w ≤ 4096
@@ -70,12 +55,6 @@ new-partial-requires : tie.Need-new-partial-requires
 new-partial-requires c κs =
     let s = start (slot (c .before .before)) in
     (s .pre .0, s .pre .2, front-long (s .args .g .w) 4096 (narrow s), s .pre .5, s .pre .4, rw (c .before .before .record-at .ensures .0) (s .pre .7))
-
-sub-store-slot : tie.Need-sub-store-slot
-sub-store-slot c = search needs
-
-part-store-slot-start : tie.Need-part-store-slot-start
-part-store-slot-start c = search needs
 
 -- and comes back as its front
 back : (c : tie.After-new-partial)
@@ -115,15 +94,6 @@ store-record-requires c κs =
     let s = start (slot (entry (partial f))) in
     (s .pre .1, s .pre .3, c .written .ensures .1, f .store-slot .ensures [] [] .sane)
 
-enum-told : tie.Need-enum-told
-enum-told c = search needs
-
-same-length : tie.Need-same-length
-same-length c = search needs
-
-same-length-2 : tie.Need-same-length-2
-same-length-2 c = search needs
-
 returns : tie.Need-returns
 returns c =
     let f = c .before .before .before .before .before .before .before in
@@ -137,41 +107,36 @@ returns c =
     let v = images x r (now (a .slots)) in
     let z = f .store-slot .last .0 in
     let last = c .before .before .store-record in
-    rw (steps-found l (a .j) (a .m) (now (a .bytes)) (a .q) v (i .i .given .0 .0) (found i) (e .record-at .ensures .0)
+    rw (steps-found l (a .j) (a .m) (now (a .bytes)) (a .q) v (i .free .given .0 .0) (found i) (e .record-at .ensures .0)
     (back n .1 ∙ n .new-partial .ensures .0) (n .new-partial .ensures .1) (c .before .before .before .written .ensures .0 (a .g)))
     (ran-append l (a .p) (f .store-slot .result) (last .result) _ _ v (images x r z) _ (f .store-slot .ensures x r) (last .ensures x z))
 
-same-length-3 : tie.Need-same-length-3
-same-length-3 c = search needs
-
 returns-2 : tie.Need-returns-2
 returns-2 c =
-    let s = c .before .before .before .before .before .before .before .before in
+    let s = c .before .before .before .before .before .before in
     let a = s .args in
     let l = layoutOf (a .g) in
     let v = images (now (a .chips)) (now (a .records)) (now (a .slots)) in
-    rw (steps-none l (a .j) (a .m) (now (a .bytes)) (a .q) v (sym (c .before .before .free-slot .ensures) ∙ c .enum-told .given .1)) (ran-none l (a .p) v (s .pre .8))
+    rw (steps-none l (a .j) (a .m) (now (a .bytes)) (a .q) v (sym (s .pre .9) ∙ c .enum-told .given .1)) (ran-none l (a .p) v (s .pre .8))
 
 pub store-partial-spec : {M : Type 1} → statement M
 store-partial-spec =
     tie.close
     (tie.spec
-    free-slot-requires
-    enum-known-i
-    record-at-requires
-    sub-new-partial
-    part-work-start
+    (λ c. search needs)
+    (λ c κs. search needs)
+    (λ c. search needs)
+    (λ c. search needs)
     part-work-end
     new-partial-requires
-    sub-store-slot
-    part-store-slot-start
+    (λ c. search needs)
+    (λ c. search needs)
     part-store-slot-end
     store-slot-requires
     written-requires
     store-record-requires
-    enum-told
-    same-length
-    same-length-2
+    (λ c. search needs)
+    (λ c. search needs)
+    (λ c. search needs)
     returns
-    same-length-3
     returns-2)

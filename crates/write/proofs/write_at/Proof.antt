@@ -14,9 +14,6 @@ use Rattle.rules.specs.Write.{dataPage, slotSteps, writeAt}
 use Rattle.write.proofs.write_at.Statement.{statement}
 use Rattle.write.proofs.write_at.Tie as tie
 
-member-chip-requires : tie.Need-member-chip-requires
-member-chip-requires c κs = search needs
-
 program-requires : tie.Need-program-requires
 program-requires c κs =
     let s = c .before .before .before .before .before .before in
@@ -43,16 +40,8 @@ store-partial-requires c κs =
       s .pre .6,
       s .pre .7,
       f .ensures [] [] .sane,
+      s .pre .9,
     )
-
-same-length : tie.Need-same-length
-same-length c = search needs
-
-same-length-2 : tie.Need-same-length-2
-same-length-2 c = search needs
-
-same-length-3 : tie.Need-same-length-3
-same-length-3 c = search needs
 
 returns : tie.Need-returns
 unfolding writeAt none
@@ -74,10 +63,10 @@ pub write-at-spec : {M : Type 1} → statement M
 write-at-spec =
     tie.close
     (tie.spec
-    member-chip-requires
+    (λ c κs. search needs)
     program-requires
     store-partial-requires
-    same-length
-    same-length-2
-    same-length-3
+    (λ c. search needs)
+    (λ c. search needs)
+    (λ c. search needs)
     returns)

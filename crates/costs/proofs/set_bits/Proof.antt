@@ -12,8 +12,8 @@ use Rattle.layout.specs.Record.{bit}
 use Rattle.rules.specs.Commit.{setBits}
 use Rattle.layout.proofs.Limits.{within}
 use Rattle.layout.proofs.Bits.{testBit}
-use Rattle.commit.proofs.set_bits.Statement.{statement}
-use Rattle.commit.proofs.set_bits.Tie as tie
+use Rattle.costs.proofs.set_bits.Statement.{statement}
+use Rattle.costs.proofs.set_bits.Tie as tie
 
 abbrev Inv-loop : tie.InvT-loop
 Inv-loop bitmap n p₀ m₀ p m = (m ≤ n) × (p ≡ countBelow m (testBit bitmap))

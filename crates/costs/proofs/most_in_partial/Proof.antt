@@ -3,8 +3,8 @@ use native.Mathlib.Omega.{arith}
 use mathlib.Core.Path.{refl}
 use Rattle.layout.specs.Layout.{layoutOf}
 use Rattle.layout.proofs.Limits.{within}
-use Rattle.commit.proofs.most_in_partial.Statement.{statement}
-use Rattle.commit.proofs.most_in_partial.Tie as tie
+use Rattle.costs.proofs.most_in_partial.Statement.{statement}
+use Rattle.costs.proofs.most_in_partial.Tie as tie
 
 add-result : tie.Need-add-result
 add-result c = omega (arith, within (layoutOf (c .args .g)) (c .pre) .members-high)

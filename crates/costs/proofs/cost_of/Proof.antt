@@ -5,8 +5,8 @@ use borrow.Author.Needs.{needs}
 use Rattle.layout.specs.Layout.{layoutOf}
 use Rattle.layout.proofs.Limits.{within}
 use Rattle.rules.specs.Commit.{costOf}
-use Rattle.commit.proofs.cost_of.Statement.{statement}
-use Rattle.commit.proofs.cost_of.Tie as tie
+use Rattle.costs.proofs.cost_of.Statement.{statement}
+use Rattle.costs.proofs.cost_of.Tie as tie
 
 most-in-partial-requires : tie.Need-most-in-partial-requires
 most-in-partial-requires c κs = search needs
