@@ -2,12 +2,18 @@
 use Prim.Native.Nat.{_+_, _-_, _*_, _%_, _≤_}
 use native.Mathlib.Omega.{arith}
 use mathlib.Core.Path.{_≡_}
-use mathlib.Core.Bool.{Bool, true}
+use mathlib.Core.Bool.{Bool, true, _&&_}
 use mathlib.Core.List.{List, [], _∷_}
 use lib.Dec.{leb, eqb}
 use borrow.Author.Tests.{leb-true, eqb-true, le-leb, eq-eqb}
-use Rattle.units.proofs.Tests.{chain-all, all-chain}
+use Rattle.units.proofs.Tests.{and-both, all-chain}
 use Rattle.layout.specs.Layout.{Layout, none, limits}
+
+and-left : (a b : Bool) → a && b ≡ true → a ≡ true
+and-left a b e = and-both a b e .0
+
+and-right : (a b : Bool) → a && b ≡ true → b ≡ true
+and-right a b e = and-both a b e .1
 
 module _ (l : Layout) where
   open Layout l using (N, W, K, B, S, M)
@@ -35,8 +41,8 @@ module _ (l : Layout) where
       ∷ leb 1 S ∷ leb S 65535 ∷ leb 1 M ∷ leb M 254 ∷ leb (S + M + 1) ((B - 1) * K) ∷ []
 
   pub within : limits l ≡ true → Within
-  unfolding limits tests
-  within e = let h = chain-all (leb 2 N) tests e in omega (arith, leb-true, eqb-true)
+  unfolding limits
+  within e = search (leb-true, eqb-true, and-left, and-right) depth 20
 
   pub limited : Within → limits l ≡ true
   unfolding limits tests

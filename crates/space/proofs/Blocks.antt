@@ -60,7 +60,7 @@ some-places {g} h = let w = within (layoutOf g) (h .chips-fit .limited) in omega
 
 module _ {g : Geometry} {chips : List ℕ} {c : ℕ} (h : Ordered g chips c) (b : ℕ) (low : b < g .b) where
   in-order : orderedBlock (layoutOf g) (pageAt (layoutOf g) chips c) b ≡ true
-  in-order = all-at (g .b) (orderedBlock (layoutOf g) (pageAt (layoutOf g) chips c)) (h .order) b low
+  in-order = all-at _ (orderedBlock (layoutOf g) (pageAt (layoutOf g) chips c)) (h .order) b low
 
   pub first-page : OnChip g (b * g .k)
   first-page = rw add-zero at (place-low g (h .chips-fit .limited) b 0 low (some-places h))

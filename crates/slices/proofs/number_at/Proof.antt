@@ -23,7 +23,7 @@ add-result c = search needs
 returns : tie.Need-returns
 returns c =
     let a = c .before .before .before .args in
-    (rw (number-two (a .s .now) (a .a) (omega arith)) (cc), omega arith)
+    (rw (c .byte2 .ensures .0, c .before .byte .ensures .0, number-two (a .s .now) (a .a) (omega arith)), omega arith)
 
 pub number-at-spec : {M : Type 1} → statement M
 number-at-spec =
