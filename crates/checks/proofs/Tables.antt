@@ -34,10 +34,7 @@ use Rattle.checks.specs.Slots.{slotScan, cheapestIn, unmarked, Tallied, 
 -- ---- the tally
 
 -- before the first record
-abbrev pub untallied : Tally
-untallied = record { sound = true; own = true; slotted = 0; stripe = 0; least = 8 }
-
-pub tallied-start : {l : Layout} {r : ℕ → Record} → Tallied l r 0 untallied
+pub tallied-start : {l : Layout} {r : ℕ → Record} → Tallied l r 0 (record { sound = true; own = true; slotted = 0; stripe = 0; least = 8 })
 unfolding allBelow countBelow
 tallied-start {l} {r} =
     let b = best-start (slotted r) (recordCost l r) 8 0 in
@@ -100,9 +97,9 @@ pub record Passed (g : Geometry) (r : ℕ → Record) (j : ℕ) (seen : List Boo
   pub few : names ≤ 13 * j
 
 -- before the first record no slot is marked
-pub passed-start : {g : Geometry} {r : ℕ → Record} → Passed g r 0 (replicate 256 false) untallied 0
-passed-start {g} {r} =
-    record { tally = tallied-start; table = marks-none; named = sym (sum-start (λ j. recordNames (layoutOf g) (r j))); few = omega arith }
+pub passed-start : {g : Geometry} {r : ℕ → Record} {t : Tally} → Tallied (layoutOf g) r 0 t → Passed g r 0 (replicate 256 false) t 0
+passed-start {g} {r} h =
+    record { tally = h; table = marks-none; named = sym (sum-start (λ j. recordNames (layoutOf g) (r j))); few = omega arith }
 
 module _ {g : Geometry} {r : ℕ → Record} {j : ℕ} {seen : List Bool} {t : Tally} {names : ℕ} (p : Passed g r j seen t names) where
   -- the names with those of record j

@@ -13,18 +13,18 @@ use slices::number_at;
 use units::Found;
 ghost use mathlib.Core.Path.{_≡_};
 ghost use mathlib.Core.Bool.{true};
-ghost use Prim.Native.Nat.{_+_, _*_, _≤_, _<_};
+ghost use Prim.Native.Nat.{ℕ, _+_, _*_, _≤_, _<_};
 ghost use lib.ListN.{length};
 ghost use Rattle.units.specs.Look.{allBelow, firstBelow};
 ghost use Rattle.layout.specs.Layout.{layoutOf, limits};
-ghost use Rattle.layout.specs.Record.{recordAt};
+ghost use Rattle.layout.specs.Record.{Record, recordAt};
 ghost use Rattle.layout.specs.Collection.{collectionAt};
 ghost use Rattle.layout.specs.Images.{lengths};
 ghost use Rattle.rules.specs.Sound.{memberSound, recordSound, collectionSound, recordsSound};
 ghost use Rattle.codec.specs.Fit.{RecordsFit};
 ghost use Rattle.codec.specs.Views.{recordFrom};
 ghost use Rattle.checks.specs.Plain.{Ranges, WordAt, writtenIn, Glanced};
-ghost use Rattle.checks.specs.Slots.{slotScan, Adds, cheapestIn, unmarked};
+ghost use Rattle.checks.specs.Slots.{slotScan, Tallied, Adds, cheapestIn, unmarked};
 ghost use Rattle.names.specs.Stamps.{recordNames, namesIn};
 
 // Whether the geometry is within the limits. No product is formed before its factors are known to be small.
@@ -288,6 +288,19 @@ struct Tally {
     least: usize,
 }
 
+// The tally before the first record.
+fn no_tally() -> Tally
+    ensures { λ t. ⌜ ((g : Geometry) (r : ℕ → Record) → Tallied (layoutOf g) r 0 t) ⌝ }
+{
+    Tally {
+        sound: true,
+        own: true,
+        slotted: 0,
+        stripe: 0,
+        least: 8,
+    }
+}
+
 // The tally with record j; taken, where a record before it has its slot.
 fn with_record(g: Geometry, j: usize, e: StripeRecord, taken: bool, t: Tally) -> Tally
     requires { ⌜ (limits (layoutOf g) ≡ true) × (t .slotted < 65536) ⌝ }
@@ -362,13 +375,7 @@ pub fn scan_records(g: Geometry, records: &[u8]) -> RecordsScan
     let most = g.m as usize;
     let tops = ranges(g);
     let mut seen = [false; 256];
-    let mut tally = Tally {
-        sound: true,
-        own: true,
-        slotted: 0,
-        stripe: 0,
-        least: 8,
-    };
+    let mut tally = no_tally();
     let mut names: usize = 0;
     let mut j = 0;
     while j < s {

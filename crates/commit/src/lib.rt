@@ -95,12 +95,12 @@ pub fn commit_at(
     let w = g.w as usize;
     let e = record_at(records, g, j);
     let reads = new_parity(&mut work[0..w], chips, slots, g, j, e);
-    let tag = Spare {
+    let spare = Spare {
         kind: PARITY,
         member: 0,
         stripe: j,
         copied: NONE,
     };
-    let run = program(chips, g, parity_chip(g, j), q, &work[0..w], tag, reads, p);
+    let run = program(chips, g, parity_chip(g, j), q, &work[0..w], spare, reads, p);
     store_record(records, g, j, committed(e, q), run)
 }

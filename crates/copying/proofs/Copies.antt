@@ -30,16 +30,16 @@ use Rattle.rules.proofs.Lists.Collecting.{chosen-on}
 use Rattle.codec.specs.declared.Spare.{Spare}
 use Rattle.codec.specs.Views.{spareOf, pageFrom}
 use Rattle.names.specs.Checked.{Settled}
-use Rattle.names.specs.Stamps.{TagsPass}
-use Rattle.names.proofs.Statements.{usable, tags-pass, sound, checked}
+use Rattle.names.specs.Stamps.{StampsPass}
+use Rattle.names.proofs.Statements.{usable, stamps-pass, sound, checked}
 
--- a page programmed with the data and the tag of page x is its copy
+-- a page programmed with the data and the stamp of page x is its copy
 pub copy-ran : (l : Layout) (c p q : ℕ) (x : Page) (t : Spare) (ys : List ℕ) (run r : Progress) (s u : Images) → ys ≡ x .bytes → t ≡ spareOf x
     → Ran l run
     (record { reads = 1; store = program c q (pageFrom ys (record { kind = t .kind; member = t .member; stripe = t .stripe; copied = p })) } ∷ [])
     r s u
     → Ran l run (record { reads = 1; store = program c q (copyOf p x) } ∷ []) r s u
-copy-ran l c p q x t ys run r s u data-same tag-same h = rw (data-same, tag-same) at h
+copy-ran l c p q x t ys run r s u data-same stamp-same h = rw (data-same, stamp-same) at h
 
 -- the copies of the places below i of the victim
 abbrev copiesBelow : Geometry → ℕ → ℕ → ℕ → ℕ → Images → List Step
@@ -184,8 +184,8 @@ module _ {g : Geometry} {x₀ r₀ r₁ : List ℕ} {c v d : ℕ} {p p₁ : Prog
             (stepsBelow i (copyFrom l c (pageAt l x₀ c) (recordAt l r₀) v d)) (apply l (collection (phase 1 c v d)) s) (λ t k. k) (λ t k m. (k .sound, m))
             (copies-below l u s f c v d chosen i (w .fits)) .ends)
 
-        pub copying-tags : TagsPass g x r₁ c
-        copying-tags = tags-pass g x r₁ (checked g (b .settled .checked .chips-fit .limited) (images x r₁ zs) (state .0)) c (b .chip)
+        pub copying-stamps : StampsPass g x r₁ c
+        copying-stamps = stamps-pass g x r₁ (checked g (b .settled .checked .chips-fit .limited) (images x r₁ zs) (state .0)) c (b .chip)
 
         -- the victim's pages are as they were
         pub copying-still : (k : ℕ) → k < g .k → pageAt l x c (pageIn l v k) ≡ pageAt l x₀ c (pageIn l v k)

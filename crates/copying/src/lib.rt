@@ -38,13 +38,13 @@ fn copy_page(chips: &mut [u8], g: Geometry, c: usize, p: usize, q: usize, run: P
     let w = g.w as usize;
     let t = spare_at(chips, g, c, p);
     copy(&mut work[0..w], page_data(chips, g, c, p));
-    let tag = Spare {
+    let spare = Spare {
         kind: t.kind,
         member: t.member,
         stripe: t.stripe,
         copied: p,
     };
-    program(chips, g, c, q, &work[0..w], tag, 1, run)
+    program(chips, g, c, q, &work[0..w], spare, 1, run)
 }
 
 // Stores phase n of the collection of block v of chip c into block d.

@@ -2,18 +2,12 @@
 use Prim.Native.Nat.{_+_, _-_, _*_, _%_, _≤_}
 use native.Mathlib.Omega.{arith}
 use mathlib.Core.Path.{_≡_}
-use mathlib.Core.Bool.{Bool, true, _&&_}
+use mathlib.Core.Bool.{Bool, true}
 use mathlib.Core.List.{List, [], _∷_}
 use lib.Dec.{leb, eqb}
 use borrow.Author.Tests.{leb-true, eqb-true, le-leb, eq-eqb}
-use Rattle.units.proofs.Tests.{and-both, all-chain}
+use Rattle.units.proofs.Tests.{and-left, and-right, all-chain}
 use Rattle.layout.specs.Layout.{Layout, none, limits}
-
-and-left : (a b : Bool) → a && b ≡ true → a ≡ true
-and-left a b e = and-both a b e .0
-
-and-right : (a b : Bool) → a && b ≡ true → b ≡ true
-and-right a b e = and-both a b e .1
 
 module _ (l : Layout) where
   open Layout l using (N, W, K, B, S, M)

@@ -26,7 +26,7 @@ use Rattle.rules.proofs.Soundness.Checks.{lengths-are, records-check-pass, spar
 use Rattle.rules.proofs.Soundness.RecordChecks.{record-pass}
 use Rattle.codec.specs.Fit.{ChipsFit, RecordsFit, SlotsFit}
 use Rattle.names.specs.Checked.{Checked, Settled}
-use Rattle.names.proofs.Statements.{tags-pass}
+use Rattle.names.proofs.Statements.{stamps-pass}
 use Rattle.checks.specs.declared.SlotScan.{SlotScan}
 use Rattle.checks.specs.Slots.{slotScan}
 use Rattle.spares.specs.declared.ChipScan.{ChipScan}
@@ -186,7 +186,7 @@ pub victims : (g : Geometry) (s : Images) (lost : ℕ) {look : Look} → checked
     → look ≡ lookOf (layoutOf g) s lost (checked (settledRows (layoutOf g) s lost)) → Victims g (s .chips) (s .records) (look .chips)
 victims g s lost e none-lost seen =
     let h = store-ready g s lost e none-lost in
-    victims-known (tags-pass g (s .chips) (s .records) (h .settled .checked)) lost (omega (arith, h .within-limits .members-high)) (ap (λ (o : Look). o .chips) (rw e at seen))
+    victims-known (stamps-pass g (s .chips) (s .records) (h .settled .checked)) lost (omega (arith, h .within-limits .members-high)) (ap (λ (o : Look). o .chips) (rw e at seen))
 
 -- and what the records tell of the slots
 pub slots-seen : (l : Layout) (s : Images) (lost : ℕ) {look : Look} {k : Check} → k ≡ Passed → look ≡ lookOf l s lost k → look .slots ≡ slotScan l (recordAt l (s .records))

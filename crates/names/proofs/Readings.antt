@@ -17,11 +17,11 @@ use Rattle.layout.specs.Layout.{Layout, layoutOf, none}
 use Rattle.layout.specs.Rotation.{parityChip, memberOn}
 use Rattle.layout.specs.Page.{Page}
 use Rattle.layout.specs.Record.{Record, sixFrom, recordOf, recordAt}
-use Rattle.rules.specs.Names.{mainNumber, sideNumber, kindOn, memberTag, names}
+use Rattle.rules.specs.Names.{mainNumber, sideNumber, kindOn, memberByte, names}
 use Rattle.codec.specs.declared.Spare.{Spare}
 use Rattle.codec.specs.Views.{spareOf}
 use Rattle.names.specs.declared.StripePages.{StripePages}
-use Rattle.names.specs.Stamps.{pagesOn, stamped, hasMain, hasSide, namesBelow}
+use Rattle.names.specs.Stamps.{pagesOn, byStamp, hasMain, hasSide, namesBelow}
 use Rattle.units.proofs.Tallies.{ones, count-more}
 
 module _ (g : Geometry) (xs : List ℕ) (j : ℕ) (stripe : j < g .s) where
@@ -46,14 +46,14 @@ module _ (g : Geometry) (xs : List ℕ) (j : ℕ) (stripe : j < g .s) where
   pub parity-pages : (c : ℕ) → c ≡ parityChip (layoutOf g) j
       → record { main = number (part (j * 32 + 24) 2 xs); side = 65535; kind = 80; member = 0 }
       ≡ pagesOn (layoutOf g) c j (recordAt (layoutOf g) xs j)
-  unfolding pagesOn mainNumber sideNumber kindOn memberTag none
+  unfolding pagesOn mainNumber sideNumber kindOn memberByte none
   parity-pages c e = rw (eq-eqb c (parityChip (layoutOf g) j) e, parity-in)
 
   -- and on that of member m
   pub member-pages : (c m : ℕ) → c ≢ parityChip (layoutOf g) j → m ≡ memberOn (layoutOf g) j c → m < 6
       → record { main = number (part (j * 32 + 2 * m) 2 xs); side = number (part (j * 32 + 12 + 2 * m) 2 xs); kind = 68; member = m }
       ≡ pagesOn (layoutOf g) c j (recordAt (layoutOf g) xs j)
-  unfolding pagesOn mainNumber sideNumber kindOn memberTag
+  unfolding pagesOn mainNumber sideNumber kindOn memberByte
   member-pages c m d e six = rw (ne-eqb c (parityChip (layoutOf g) j) d, ← e, current-in m six, old-in m six)
 
 -- ---- the test of a stamp as the code makes it, of the spare bytes t of page p
@@ -62,14 +62,14 @@ module _ (l : Layout) (r : ℕ → Record) (x : ℕ → Page) (c p : ℕ) (t : S
   open Layout l using (S)
 
   -- a stamp of no stripe
-  pub stamp-beyond : S ≤ t .stripe → stamped l r x c p ≡ false
-  unfolding stamped
+  pub stamp-beyond : S ≤ t .stripe → byStamp l r x c p ≡ false
+  unfolding byStamp
   stamp-beyond h = rw (ap (λ (y : Spare). y .stripe) spare, le-ltb (t .stripe) S h)
 
   -- that of a stripe, with what its record says of the chip
   pub stamp-test : (e : StripePages) → t .stripe < S → e ≡ pagesOn l c (t .stripe) (r (t .stripe))
-      → eqb (t .kind) (e .kind) && eqb (t .member) (e .member) && (eqb (e .main) p || eqb (e .side) p) ≡ stamped l r x c p
-  unfolding stamped pagesOn names
+      → eqb (t .kind) (e .kind) && eqb (t .member) (e .member) && (eqb (e .main) p || eqb (e .side) p) ≡ byStamp l r x c p
+  unfolding byStamp pagesOn names
   stamp-test e h q = rw (
     q,
     ap (λ (y : Spare). y .stripe) spare,

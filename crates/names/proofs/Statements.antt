@@ -19,24 +19,24 @@ use Rattle.layout.specs.Images.{Images, lengths, chipsLength, recordsLength, sl
 use Rattle.layout.proofs.Limits.{Within, within as in-limits}
 use Rattle.stores.specs.Allowance.{images}
 use Rattle.rules.specs.Blocks.{cleanBlock, orderedBlock}
-use Rattle.rules.specs.Sound.{collecting, taggedStripe, phase1Sound, phase2Sound, chipSound, soundOrLost, sparesSound}
+use Rattle.rules.specs.Sound.{collecting, stampedStripe, phase1Sound, phase2Sound, chipSound, soundOrLost, sparesSound}
 use Rattle.rules.proofs.Soundness.Statements.{Usable, RecordsSound, ChipSound, Sound}
 use Rattle.rules.proofs.Soundness.RecordChecks.{records-sound}
 use Rattle.rules.proofs.Soundness.ChipChecks.{chip-sound}
 use Rattle.rules.proofs.Soundness.Checks.{images-sound, records-check-pass, spares-check-pass}
-use Rattle.names.specs.Stamps.{TagsPass}
+use Rattle.names.specs.Stamps.{StampsPass}
 use Rattle.names.specs.Checked.{Checked}
 
 -- the tests of a chip: its named pages are rightly stamped, and in no block a used page follows a clean one
 chip-tests : (l : Layout) (r : ℕ → Record) (x : ℕ → Page) (c : ℕ) (co : Collection) → chipSound l r x c co ≡ true
-    → (allBelow (l .S) (taggedStripe l r x c) ≡ true) × (allBelow (l .B) (orderedBlock l x) ≡ true)
+    → (allBelow (l .S) (stampedStripe l r x c) ≡ true) × (allBelow (l .B) (orderedBlock l x) ≡ true)
 unfolding chipSound
 chip-tests l r x c co e =
     let phase =
     cond (collecting co c)
     (cond (eqb (co .phase) 1) (phase1Sound l r c (co .destination)) (phase2Sound l r x c (co .victim) (co .destination)))
     (someBelow (l .B) (cleanBlock l x)) in
-    let h = chain-all (allBelow (l .S) (taggedStripe l r x c)) (allBelow (l .B) (orderedBlock l x) ∷ phase ∷ []) e in
+    let h = chain-all (allBelow (l .S) (stampedStripe l r x c)) (allBelow (l .B) (orderedBlock l x) ∷ phase ∷ []) e in
     (h .0, h .1 .0)
 
 module _ (g : Geometry) (chips records : List ℕ) (h : Checked g chips records) where
@@ -74,12 +74,12 @@ module _ (g : Geometry) (chips records : List ℕ) (h : Checked g chips records)
   chip-is-sound c low = chip-sound l r (pageAt l chips c) c co (chip-test c low)
 
   -- and its named pages are rightly stamped
-  pub tags-pass : (c : ℕ) → c ≤ g .n → TagsPass g chips records c
-  tags-pass c low = record {
+  pub stamps-pass : (c : ℕ) → c ≤ g .n → StampsPass g chips records c
+  stamps-pass c low = record {
     chips-fit = h .chips-fit;
     records-fit = h .records-pass .fit;
     chip = low;
-    tags = chip-tests l r (pageAt l chips c) c co (chip-test c low) .0;
+    stamps = chip-tests l r (pageAt l chips c) c co (chip-test c low) .0;
   }
 
   -- and its blocks are in order

@@ -15,21 +15,21 @@ use Rattle.layout.specs.Page.{Page}
 use Rattle.layout.specs.Record.{Record}
 use Rattle.layout.proofs.Limits.{Within}
 use Rattle.layout.proofs.Rotations.{parity-chip-fits}
-use Rattle.rules.specs.Sound.{taggedStripe}
+use Rattle.rules.specs.Sound.{stampedStripe}
 use Rattle.rules.proofs.Soundness.Statements.{RecordSound}
 use Rattle.rules.proofs.Stores.Names.{main-member, side-member, main-parity, side-parity}
-use Rattle.names.specs.Stamps.{stamped, hasMain, hasSide, namesBelow, hasCurrent, hasOld, recordNames, namesIn}
+use Rattle.names.specs.Stamps.{byStamp, hasMain, hasSide, namesBelow, hasCurrent, hasOld, recordNames, namesIn}
 use Rattle.units.proofs.Tallies.{ones}
 use Rattle.units.proofs.Sums.{sum-cong, sum-at, sum-same, sum-beyond, sum-swap, counts-sum, sum-gap, but, sum-but-none, sum-but}
-use Rattle.names.proofs.Stamping.{stamps-few, tags-counted}
+use Rattle.names.proofs.Stamping.{stamps-few, stamps-counted}
 
 -- of the pages y of each chip but the lost one: those that are found by their stamps
 abbrev pub foundOn : (l : Layout) → (ℕ → Record) → (ℕ → ℕ → Page) → ℕ → ℕ → ℕ
-foundOn l r y lost c = cond (eqb c lost) 0 (countBelow (pages l) (stamped l r (y c) c))
+foundOn l r y lost c = cond (eqb c lost) 0 (countBelow (pages l) (byStamp l r (y c) c))
 
 -- every page that a record names on chip c is rightly stamped, or the chip is lost
-abbrev pub taggedOrLost : (l : Layout) → (ℕ → Record) → (ℕ → ℕ → Page) → ℕ → ℕ → Bool
-taggedOrLost l r y lost c = eqb c lost || allBelow (l .S) (taggedStripe l r (y c) c)
+abbrev pub stampedOrLost : (l : Layout) → (ℕ → Record) → (ℕ → ℕ → Page) → ℕ → ℕ → Bool
+stampedOrLost l r y lost c = eqb c lost || allBelow (l .S) (stampedStripe l r (y c) c)
 
 -- the numbers on all chips but the lost one
 abbrev pub namesKept : (l : Layout) → (ℕ → Record) → ℕ → ℕ
@@ -100,13 +100,13 @@ module _ (l : Layout) (w : Within l) (r : ℕ → Record) where
     found-le : (y : ℕ → ℕ → Page) (lost c : ℕ) → c < N + 1 → foundOn l r y lost c ≤ but lost (λ c. namesBelow l r c S) c
     found-le y lost c h = by-test (eqb c lost) (λ t. rw t (omega arith)) (λ t. rw t (stamps-few l w r (y c) c h sound))
 
-    found-tags : (y : ℕ → ℕ → Page) (lost c : ℕ) → c < N + 1
-        → eqb (foundOn l r y lost c) (but lost (λ c. namesBelow l r c S) c) ≡ taggedOrLost l r y lost c
-    found-tags y lost c h = by-test (eqb c lost) (λ t. rw t) (λ t. rw t (tags-counted l w r (y c) c h sound))
+    found-stamps : (y : ℕ → ℕ → Page) (lost c : ℕ) → c < N + 1
+        → eqb (foundOn l r y lost c) (but lost (λ c. namesBelow l r c S) c) ≡ stampedOrLost l r y lost c
+    found-stamps y lost c h = by-test (eqb c lost) (λ t. rw t) (λ t. rw t (stamps-counted l w r (y c) c h sound))
 
     -- and so on all of them
-    pub total-tags : (y : ℕ → ℕ → Page) (lost : ℕ) → eqb (sumBelow (N + 1) (foundOn l r y lost)) (namesKept l r lost) ≡ allBelow (N + 1) (taggedOrLost l r y lost)
-    total-tags y lost =
+    pub total-stamps : (y : ℕ → ℕ → Page) (lost : ℕ) → eqb (sumBelow (N + 1) (foundOn l r y lost)) (namesKept l r lost) ≡ allBelow (N + 1) (stampedOrLost l r y lost)
+    total-stamps y lost =
         let kept = but lost (λ c. namesBelow l r c S) in
         rw (kept-sum lost, sum-same (N + 1) (foundOn l r y lost) kept (found-le y lost))
-        (all-cong (N + 1) (λ c. eqb (foundOn l r y lost c) (kept c)) (taggedOrLost l r y lost) (found-tags y lost))
+        (all-cong (N + 1) (λ c. eqb (foundOn l r y lost c) (kept c)) (stampedOrLost l r y lost) (found-stamps y lost))

@@ -9,8 +9,8 @@ use Rattle.layout.specs.declared.Geometry.{Geometry}
 use Rattle.layout.specs.Layout.{Layout, isNone, layoutOf}
 use Rattle.layout.specs.Page.{Page, pageAt}
 use Rattle.layout.specs.Record.{Record, recordAt}
-use Rattle.rules.specs.Names.{mainNumber, sideNumber, kindOn, memberTag, names}
-use Rattle.rules.specs.Sound.{taggedPage, taggedStripe}
+use Rattle.rules.specs.Names.{mainNumber, sideNumber, kindOn, memberByte, names}
+use Rattle.rules.specs.Sound.{stampedPage, stampedStripe}
 use Rattle.codec.specs.Fit.{ChipsFit, RecordsFit}
 use Rattle.names.specs.declared.StripePages.{StripePages}
 
@@ -24,12 +24,13 @@ module _ (l : Layout) where
         main = mainNumber l c j r;
         side = sideNumber l c j r;
         kind = kindOn l c j;
-        member = memberTag l c j;
+        member = memberByte l c j;
       }
 
-  -- with the records r and the pages x of chip c: the record of the stripe stamped on page p names it, and the stamp is right
-  unfoldable pub stamped : (ℕ → Record) → (ℕ → Page) → ℕ → ℕ → Bool
-  stamped r x c p = ltb (x p .stripe) S && (taggedPage l x c (x p .stripe) p && names l r c p (x p .stripe))
+  -- with the records r and the pages x of chip c: page p is named, told by its own stamp: the stamp is
+  -- right, and the record of its stripe names the page
+  unfoldable pub byStamp : (ℕ → Record) → (ℕ → Page) → ℕ → ℕ → Bool
+  byStamp r x c p = ltb (x p .stripe) S && (stampedPage l x c (x p .stripe) p && names l r c p (x p .stripe))
 
   -- the record of stripe j has a main number on chip c
   abbrev pub hasMain : (ℕ → Record) → ℕ → ℕ → Bool
@@ -60,8 +61,8 @@ module _ (l : Layout) where
   namesIn r n = sumBelow n (λ j. recordNames (r j))
 
 -- each page that a record names on chip c has its stamp
-pub record TagsPass (g : Geometry) (chips records : List ℕ) (c : ℕ) : Type 0 where
+pub record StampsPass (g : Geometry) (chips records : List ℕ) (c : ℕ) : Type 0 where
   pub chips-fit : ChipsFit g chips
   pub records-fit : RecordsFit g records
   pub chip : c ≤ g .n
-  pub tags : allBelow (g .s) (taggedStripe (layoutOf g) (recordAt (layoutOf g) records) (pageAt (layoutOf g) chips c) c) ≡ true
+  pub stamps : allBelow (g .s) (stampedStripe (layoutOf g) (recordAt (layoutOf g) records) (pageAt (layoutOf g) chips c) c) ≡ true

@@ -16,7 +16,7 @@ ghost use Rattle.layout.specs.Record.{recordAt};
 ghost use Rattle.rules.specs.Names.{named};
 ghost use Rattle.codec.specs.Fit.{RecordsFit};
 ghost use Rattle.codec.specs.Views.{spareOf};
-ghost use Rattle.names.specs.Stamps.{pagesOn, stamped, namesBelow, TagsPass};
+ghost use Rattle.names.specs.Stamps.{pagesOn, byStamp, namesBelow, StampsPass};
 
 // The pages of a stripe on one chip: their numbers, the side number being an old page's or none, and their stamp.
 struct StripePages {
@@ -51,9 +51,9 @@ fn stripe_pages(records: &[u8], g: Geometry, c: usize, j: usize) -> StripePages
 }
 
 // Whether page p of chip c, with these spare bytes, is named by the record of its stripe.
-fn is_stamped(records: &[u8], g: Geometry, c: usize, p: usize, t: Spare) -> bool
+fn named_by_stamp(records: &[u8], g: Geometry, c: usize, p: usize, t: Spare) -> bool
     requires { ⌜ RecordsFit g (now records) × (c ≤ g .n) ⌝ }
-    ensures { λ r. ⌜ ((x : ℕ → Page) → spareOf (x p) ≡ t → r ≡ stamped (layoutOf g) (recordAt (layoutOf g) (now (records .entry))) x c p) ⌝ }
+    ensures { λ r. ⌜ ((x : ℕ → Page) → spareOf (x p) ≡ t → r ≡ byStamp (layoutOf g) (recordAt (layoutOf g) (now (records .entry))) x c p) ⌝ }
 {
     let s = g.s as usize;
     let j = t.stripe;
@@ -72,10 +72,10 @@ fn is_stamped(records: &[u8], g: Geometry, c: usize, p: usize, t: Spare) -> bool
 
 // Whether a record names page p of chip c.
 pub fn named_at(chips: &[u8], records: &[u8], g: Geometry, c: usize, p: usize) -> bool
-    requires { ⌜ TagsPass g (now chips) (now records) c × (p < pages (layoutOf g)) ⌝ }
+    requires { ⌜ StampsPass g (now chips) (now records) c × (p < pages (layoutOf g)) ⌝ }
     ensures { λ r. ⌜ r ≡ named (layoutOf g) (recordAt (layoutOf g) (now (records .entry))) c p ⌝ }
 {
-    is_stamped(records, g, c, p, spare_at(chips, g, c, p))
+    named_by_stamp(records, g, c, p, spare_at(chips, g, c, p))
 }
 
 // How many pages of chip c the records name.

@@ -19,7 +19,7 @@ abbrev pub phase : ℕ → ℕ → ℕ → ℕ → Collection
 phase n c victim destination =
     record { phase = n; chip = c; victim = victim; destination = destination; rest = 0 }
 
--- a copy of page p, which is x: its data and its tag, and where it is copied from
+-- a copy of page p, which is x: its data and its stamp, and where it is copied from
 abbrev pub copyOf : ℕ → Page → Page
 copyOf p x =
     record { bytes = x .bytes; kind = x .kind; member = x .member; stripe = x .stripe; copied = p }

@@ -24,8 +24,8 @@ module _ (l : Layout) where
   kindOn c j = cond (eqb c (parityChip l j)) parityKind dataKind
 
   -- and its member: "member (0 for parity)"
-  unfoldable pub memberTag : ℕ → ℕ → ℕ
-  memberTag c j = cond (eqb c (parityChip l j)) 0 (memberOn l j c)
+  unfoldable pub memberByte : ℕ → ℕ → ℕ
+  memberByte c j = cond (eqb c (parityChip l j)) 0 (memberOn l j c)
 
   -- the record of stripe j names page p of chip c
   unfoldable pub names : (ℕ → Record) → ℕ → ℕ → ℕ → Bool

@@ -7,7 +7,7 @@ use Rattle.layout.specs.Layout.{Layout, isNone, pages, pageIn}
 use Rattle.layout.specs.Page.{Page}
 use Rattle.layout.specs.Record.{Record, bit, noSlot, slotted, slotOf}
 use Rattle.layout.specs.Collection.{Collection}
-use Rattle.rules.specs.Names.{mainNumber, sideNumber, kindOn, memberTag, unnamed}
+use Rattle.rules.specs.Names.{mainNumber, sideNumber, kindOn, memberByte, unnamed}
 use Rattle.rules.specs.Blocks.{cleanBlock, orderedBlock, namedIn, unnamedIn}
 
 -- a collection is in phase 1 or 2 on chip c
@@ -91,17 +91,17 @@ module _ (l : Layout) where
         && collectionSound co
 
   -- of chip c, with its pages x: "each page a record names has that stripe, kind and member"
-  abbrev pub taggedPage : (ℕ → Page) → ℕ → ℕ → ℕ → Bool
-  taggedPage x c j p =
-      eqb (x p .stripe) j && eqb (x p .kind) (kindOn l c j) && eqb (x p .member) (memberTag l c j)
+  abbrev pub stampedPage : (ℕ → Page) → ℕ → ℕ → ℕ → Bool
+  stampedPage x c j p =
+      eqb (x p .stripe) j && eqb (x p .kind) (kindOn l c j) && eqb (x p .member) (memberByte l c j)
 
   -- the page that a number names, if any
-  abbrev pub taggedNumber : (ℕ → Page) → ℕ → ℕ → ℕ → Bool
-  taggedNumber x c j p = isNone l p || taggedPage x c j p
+  abbrev pub stampedNumber : (ℕ → Page) → ℕ → ℕ → ℕ → Bool
+  stampedNumber x c j p = isNone l p || stampedPage x c j p
 
   -- both numbers of stripe j on this chip
-  unfoldable pub taggedStripe : (ℕ → Record) → (ℕ → Page) → ℕ → ℕ → Bool
-  taggedStripe r x c j = taggedNumber x c j (mainNumber l c j (r j)) && taggedNumber x c j (sideNumber l c j (r j))
+  unfoldable pub stampedStripe : (ℕ → Record) → (ℕ → Page) → ℕ → ℕ → Bool
+  stampedStripe r x c j = stampedNumber x c j (mainNumber l c j (r j)) && stampedNumber x c j (sideNumber l c j (r j))
 
   -- "Phase 1: no record names a page of the destination."
   unfoldable pub phase1Sound : (ℕ → Record) → ℕ → ℕ → Bool
@@ -134,7 +134,7 @@ module _ (l : Layout) where
     -- "some block is wholly clean, unless a collection is in phase 1 or 2 on that chip"
     unfoldable pub chipSound : Collection → Bool
     chipSound co =
-        allBelow S (taggedStripe r x c)
+        allBelow S (stampedStripe r x c)
         && allBelow B (orderedBlock l x)
         && cond (collecting co c)
         (cond (eqb (co .phase) 1) (phase1Sound r c (co .destination)) (phase2Sound (co .victim) (co .destination)))

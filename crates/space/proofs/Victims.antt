@@ -22,10 +22,10 @@ use Rattle.layout.proofs.Limits.{within}
 use Rattle.layout.proofs.Pages.{page-in-fits}
 use Rattle.rules.specs.Blocks.{namedIn, unnamedIn, fullBlock}
 use Rattle.rules.specs.Collect.{collectable, namedCount, victimOf}
-use Rattle.names.specs.Stamps.{TagsPass}
-use Rattle.names.proofs.Stamping.{named-stamped}
+use Rattle.names.specs.Stamps.{StampsPass}
+use Rattle.names.proofs.Stamping.{named-by-stamp}
 use Rattle.spares.specs.declared.ChipScan.{ChipScan}
-use Rattle.spares.specs.Scans.{stampedIn, stampedCount, loose, chipScan, chipScans}
+use Rattle.spares.specs.Scans.{byStampIn, byStampCount, loose, chipScan, chipScans}
 use Rattle.spares.proofs.Scanning.{scans-at}
 use Rattle.space.specs.Victims.{victimIn, victimWanted, VictimFor, Victims}
 
@@ -65,7 +65,7 @@ module _ (l : Layout) (c : ℕ) (x : ℕ → Page) (r : ℕ → Record) (b : ℕ
 
 -- ---- a chip on which every named page is rightly stamped
 
-module _ {g : Geometry} {chips records : List ℕ} {c : ℕ} (h : TagsPass g chips records c) where
+module _ {g : Geometry} {chips records : List ℕ} {c : ℕ} (h : StampsPass g chips records c) where
   abbrev l : Layout
   l = layoutOf g
 
@@ -76,31 +76,31 @@ module _ {g : Geometry} {chips records : List ℕ} {c : ℕ} (h : TagsPass g chi
   x = pageAt l chips c
 
   -- the stamps of a block count its named pages
-  stamped-named : (b : ℕ) → b < g .b → stampedCount l r x c b ≡ namedCount l c x r b
-  unfolding stampedCount namedCount
-  stamped-named b low =
-      sym (count-cong (g .k) (namedIn l r c b) (stampedIn l r x c b) (λ i place.
-      named-stamped l (within l (h .chips-fit .limited)) r x c (h .tags) (pageIn l b i) (page-in-fits l b i low place)))
+  by-stamp-named : (b : ℕ) → b < g .b → byStampCount l r x c b ≡ namedCount l c x r b
+  unfolding byStampCount namedCount
+  by-stamp-named b low =
+      sym (count-cong (g .k) (namedIn l r c b) (byStampIn l r x c b) (λ i place.
+      named-by-stamp l (within l (h .chips-fit .limited)) r x c (h .stamps) (pageIn l b i) (page-in-fits l b i low place)))
 
   -- so a block is loose where it can be collected
   loose-collectable : (b : ℕ) → b < g .b → loose l r x c b ≡ collectable l c x r b
   unfolding loose
   loose-collectable b low =
-      same-tests (fullBlock l x b && ltb (stampedCount l r x c b) (g .k)) (collectable l c x r b)
-      (λ t. let (full, few) = and-both (fullBlock l x b) (ltb (stampedCount l r x c b) (g .k)) t in
-      collectable-by l c x r b full (rw (stamped-named b low) at (ltb-true (stampedCount l r x c b) (g .k) few)))
+      same-tests (fullBlock l x b && ltb (byStampCount l r x c b) (g .k)) (collectable l c x r b)
+      (λ t. let (full, few) = and-both (fullBlock l x b) (ltb (byStampCount l r x c b) (g .k)) t in
+      collectable-by l c x r b full (rw (by-stamp-named b low) at (ltb-true (byStampCount l r x c b) (g .k) few)))
       (λ t. let (full, few) = collectable-is l c x r b t in
-      rw (full, stamped-named b low) (lt-ltb (namedCount l c x r b) (g .k) few))
+      rw (full, by-stamp-named b low) (lt-ltb (namedCount l c x r b) (g .k) few))
 
   -- the scan of the whole chip has found the victim
   pub victim-found : {s : ChipScan} → s ≡ chipScan l r x c (g .b) → victimIn (g .k) s ≡ victimOf l c x r
   unfolding chipScan victimIn victimOf loose whenFound
   victim-found e =
-      let same = least-cong (g .b) (loose l r x c) (collectable l c x r) (stampedCount l r x c) (namedCount l c x r) loose-collectable stamped-named in
-      by-found (leastBelow (g .b) (loose l r x c) (stampedCount l r x c))
+      let same = least-cong (g .b) (loose l r x c) (collectable l c x r) (byStampCount l r x c) (namedCount l c x r) loose-collectable by-stamp-named in
+      by-found (leastBelow (g .b) (loose l r x c) (byStampCount l r x c))
       (λ v found.
-      let (_, passes, _, _) = least-at (g .b) (loose l r x c) (stampedCount l r x c) v found in
-      let (_, few) = and-both (fullBlock l x v) (ltb (stampedCount l r x c v) (g .k)) passes in
+      let (_, passes, _, _) = least-at (g .b) (loose l r x c) (byStampCount l r x c) v found in
+      let (_, few) = and-both (fullBlock l x v) (ltb (byStampCount l r x c v) (g .k)) passes in
       rw (e, found, few) (sym found ∙ same))
       (λ nothing. rw (e, nothing, le-ltb (g .k) (g .k) (le-refl (g .k))) (sym nothing ∙ same))
 
@@ -111,12 +111,12 @@ unfolding victimWanted whenFound
 victim-wanted e = record { is = λ nowhere. e ∙ rw nowhere }
 
 -- of every chip
-pub victims-known : {g : Geometry} {chips records : List ℕ} {scans : List ChipScan} → ((c : ℕ) → c ≤ g .n → TagsPass g chips records c) → (lost : ℕ) → g .n < lost
+pub victims-known : {g : Geometry} {chips records : List ℕ} {scans : List ChipScan} → ((c : ℕ) → c ≤ g .n → StampsPass g chips records c) → (lost : ℕ) → g .n < lost
     → scans ≡ chipScans (layoutOf g) (recordAt (layoutOf g) records) (pageAt (layoutOf g) chips) lost (g .b) → Victims g chips records scans
 unfolding chipScans
-victims-known {g} {chips} tags lost high e =
+victims-known {g} {chips} stamps lost high e =
     let l = layoutOf g in
     record {
       long = rw e;
-      at = λ c low. let h = tags c low in victim-found h (scans-at l _ (pageAt l chips) lost (g .b) e (within l (h .chips-fit .limited) .members-high) c low (λ q. omega arith));
+      at = λ c low. let h = stamps c low in victim-found h (scans-at l _ (pageAt l chips) lost (g .b) e (within l (h .chips-fit .limited) .members-high) c low (λ q. omega arith));
     }

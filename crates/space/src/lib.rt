@@ -14,7 +14,7 @@ ghost use Rattle.layout.specs.Record.{recordAt};
 ghost use Rattle.rules.specs.Blocks.{lowestCleanBlock};
 ghost use Rattle.rules.specs.Place.{placeOf};
 ghost use Rattle.codec.specs.Fit.{ChipsFit};
-ghost use Rattle.names.specs.Stamps.{TagsPass};
+ghost use Rattle.names.specs.Stamps.{StampsPass};
 ghost use Rattle.space.specs.Ordered.{Ordered};
 ghost use Rattle.space.specs.Victims.{victimIn, victimWanted};
 
@@ -101,7 +101,7 @@ pub fn victim_in(g: Geometry, s: ChipScan) -> Found
 // The full block of chip c with fewest named pages, if one has a page that is not named; none where the chip has a place, for then
 // nobody asks for it.
 pub fn victim_on(chips: &[u8], records: &[u8], g: Geometry, c: usize) -> Found
-    requires { ⌜ Ordered g (now chips) c × TagsPass g (now chips) (now records) c ⌝ }
+    requires { ⌜ Ordered g (now chips) c × StampsPass g (now chips) (now records) c ⌝ }
     ensures { λ r. ⌜ r ≡ victimWanted (layoutOf g) c (pageAt (layoutOf g) (now (chips .entry)) c) (recordAt (layoutOf g) (now (records .entry))) ⌝ }
 {
     if let Found::At(_) = place_on(chips, g, c) {

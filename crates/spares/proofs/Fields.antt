@@ -17,8 +17,8 @@ use Rattle.layout.specs.Rotation.{parityChip, memberOn}
 use Rattle.layout.specs.Page.{Page}
 use Rattle.layout.specs.Record.{recordAt}
 use Rattle.layout.proofs.Limits.{within}
-use Rattle.rules.specs.Names.{mainNumber, sideNumber, kindOn, memberTag, names}
-use Rattle.names.specs.Stamps.{stamped}
+use Rattle.rules.specs.Names.{mainNumber, sideNumber, kindOn, memberByte, names}
+use Rattle.names.specs.Stamps.{byStamp}
 use Rattle.names.proofs.Readings.{current-in, old-in, parity-in}
 use Rattle.spares.specs.Scans.{TagIs, hasNumber, tagOn, fieldOn, fieldOf, FieldsOf, FieldsFit}
 
@@ -27,12 +27,12 @@ use Rattle.spares.specs.Scans.{TagIs, hasNumber, tagOn, fieldOn, fieldOf
 module _ (l : Layout) (c j : ℕ) where
   -- on the chip of the parity
   pub parity-field : c ≡ parityChip l j → (80 ≡ tagOn l c j) × (24 ≡ fieldOn l c j)
-  unfolding fieldOn kindOn memberTag
+  unfolding fieldOn kindOn memberByte
   parity-field e = rw (eq-eqb c (parityChip l j) e) (refl, refl)
 
   -- on that of member m
   pub member-field : (m : ℕ) → c ≢ parityChip l j → m ≡ memberOn l j c → (68 + 256 * m ≡ tagOn l c j) × (2 * m ≡ fieldOn l c j)
-  unfolding fieldOn kindOn memberTag
+  unfolding fieldOn kindOn memberByte
   member-field m d e = rw (ne-eqb c (parityChip l j) d, ← e) (refl, refl)
 
   kind-low : kindOn l c j < 256
@@ -97,14 +97,14 @@ tests-in-order false k m n = rw and-false
 module _ (g : Geometry) (xs : List ℕ) (x : ℕ → Page) (c p t j : ℕ) (limited : limits (layoutOf g) ≡ true) (chip : c ≤ g .n) (page : p < 65535)
     (is : TagIs t (x p .kind) (x p .member)) (stripe : j ≡ x p .stripe) where
   -- the test of the stamp
-  stamp-is : stamped (layoutOf g) (recordAt (layoutOf g) xs) x c p
+  stamp-is : byStamp (layoutOf g) (recordAt (layoutOf g) xs) x c p
       ≡ (eqb t (tagOn (layoutOf g) c j) && ltb j (g .s)) && names (layoutOf g) (recordAt (layoutOf g) xs) c p j
-  unfolding stamped
+  unfolding byStamp
   stamp-is =
       let l = layoutOf g in
       let k = eqb (x p .kind) (kindOn l c j) in
-      let m = eqb (x p .member) (memberTag l c j) in
-      rw (← stripe, eq-eqb j j refl, tag-test (kindOn l c j) (memberTag l c j) (kind-low l c j) is)
+      let m = eqb (x p .member) (memberByte l c j) in
+      rw (← stripe, eq-eqb j j refl, tag-test (kindOn l c j) (memberByte l c j) (kind-low l c j) is)
       (tests-in-order (ltb j (g .s)) k m (names l (recordAt l xs) c p j))
 
   -- on a stripe that there is, the record names the page exactly if it has its number in the chip's field
@@ -131,7 +131,7 @@ module _ (g : Geometry) (xs : List ℕ) (x : ℕ → Page) (c p t j : ℕ) (limi
         e,
       ) refl)
 
-  pub field-test : hasNumber xs j (fieldOf (layoutOf g) c t j) p ≡ stamped (layoutOf g) (recordAt (layoutOf g) xs) x c p
+  pub field-test : hasNumber xs j (fieldOf (layoutOf g) c t j) p ≡ byStamp (layoutOf g) (recordAt (layoutOf g) xs) x c p
   unfolding hasNumber
   field-test =
       let l = layoutOf g in

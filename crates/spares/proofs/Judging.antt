@@ -19,18 +19,18 @@ use Rattle.layout.specs.Record.{Record, recordAt}
 use Rattle.layout.specs.Collection.{Collection, collectionAt}
 use Rattle.layout.proofs.Limits.{within}
 use Rattle.rules.specs.Blocks.{cleanBlock, orderedBlock}
-use Rattle.rules.specs.Sound.{collecting, taggedStripe, phase1Sound, phase2Sound, chipSound, soundOrLost, sparesSound}
+use Rattle.rules.specs.Sound.{collecting, stampedStripe, phase1Sound, phase2Sound, chipSound, soundOrLost, sparesSound}
 use Rattle.rules.proofs.Soundness.Statements.{RecordsSound}
 use Rattle.rules.proofs.Soundness.RecordChecks.{records-sound}
 use Rattle.codec.specs.declared.CollectionRecord.{CollectionRecord}
 use Rattle.codec.specs.Fit.{ChipsFit}
 use Rattle.codec.specs.Views.{CollectionIs}
-use Rattle.names.specs.Stamps.{stamped, TagsPass}
+use Rattle.names.specs.Stamps.{byStamp, StampsPass}
 use Rattle.units.proofs.Tallies.{same-tests}
 use Rattle.spares.specs.declared.ChipScan.{ChipScan}
 use Rattle.names.specs.Checked.{RecordsPass}
 use Rattle.spares.specs.Scans.{chipScan, phaseSound}
-use Rattle.names.proofs.Totals.{foundOn, taggedOrLost, namesKept, total-tags}
+use Rattle.names.proofs.Totals.{foundOn, stampedOrLost, namesKept, total-stamps}
 
 -- ---- tests
 
@@ -83,18 +83,18 @@ module _ (l : Layout) (r : ℕ → Record) (y : ℕ → ℕ → Page) (co : Coll
 
   -- the verdict in three parts
   pub three-parts : co .chip ≤ N
-      → allBelow (N + 1) (taggedOrLost l r y lost) && allBelow (N + 1) shapedOrLost && (eqb (co .chip) lost || phaseSound l r (y (co .chip)) co)
+      → allBelow (N + 1) (stampedOrLost l r y lost) && allBelow (N + 1) shapedOrLost && (eqb (co .chip) lost || phaseSound l r (y (co .chip)) co)
       ≡ sparesSound l r y co lost
   unfolding sparesSound chipSound
   three-parts low =
-      let tagged = taggedOrLost l r y lost in
-      let parts : ℕ → Bool = λ c. tagged c && shapedOrLost c && phasedOrLost c in
+      let stamped = stampedOrLost l r y lost in
+      let parts : ℕ → Bool = λ c. stamped c && shapedOrLost c && phasedOrLost c in
       let each : allBelow (N + 1) (soundOrLost l r y co lost) ≡ allBelow (N + 1) parts = all-cong (N + 1) (soundOrLost l r y co lost) parts (λ c _.
-      split (eqb c lost) (allBelow (l .S) (taggedStripe l r (y c) c)) (allBelow B (orderedBlock l (y c))) (someBelow B (cleanBlock l (y c)))
+      split (eqb c lost) (allBelow (l .S) (stampedStripe l r (y c) c)) (allBelow B (orderedBlock l (y c))) (someBelow B (cleanBlock l (y c)))
       (eqb (co .phase) 1) (eqb (co .phase) 2) (eqb (co .chip) c) (phase1Sound l r c (co .destination)) (phase2Sound l r (y c) c (co .victim) (co .destination))) in
       sym (each
-      ∙ all-both (N + 1) (λ c. tagged c && shapedOrLost c) phasedOrLost
-      ∙ ap₂ (λ s t. s && t) (all-both (N + 1) tagged shapedOrLost) (one-phased low))
+      ∙ all-both (N + 1) (λ c. stamped c && shapedOrLost c) phasedOrLost
+      ∙ ap₂ (λ s t. s && t) (all-both (N + 1) stamped shapedOrLost) (one-phased low))
 
   -- ---- the loop over the chips
 
@@ -131,7 +131,7 @@ pub judge-few : (l : Layout) (r : ℕ → Record) (y : ℕ → ℕ → Page) (lo
 unfolding sumBelow
 judge-few l r y lost few zero = omega arith
 judge-few l r y lost few (suc c) =
-    omega (arith, judge-few l r y lost few c, at-most (eqb c lost) (countBelow (pages l) (stamped l r (y c) c)) (count-le (pages l) (stamped l r (y c) c)))
+    omega (arith, judge-few l r y lost few c, at-most (eqb c lost) (countBelow (pages l) (byStamp l r (y c) c)) (count-le (pages l) (byStamp l r (y c) c)))
   where
     at-most : (b : Bool) (n : ℕ) → n ≤ pages l → cond b 0 n ≤ pages l
     at-most true n h = omega arith
@@ -161,10 +161,10 @@ module _ {g : Geometry} {records : List ℕ} {co : CollectionRecord} (pass : Rec
       (h : Judged (layoutOf g) (recordAt (layoutOf g) records) (pageAt (layoutOf g) chips) (collectionAt (layoutOf g) records) lost i named shaped)
       (end : i ≡ g .n + 1) (kept-is : kept ≡ namesKept (layoutOf g) (recordAt (layoutOf g) records) lost) where
     -- every named page is rightly stamped exactly where as many are found as there are names
-    tags-test : eqb named kept ≡ allBelow (g .n + 1) (taggedOrLost (layoutOf g) (recordAt (layoutOf g) records) (pageAt (layoutOf g) chips) lost)
-    tags-test =
+    stamps-test : eqb named kept ≡ allBelow (g .n + 1) (stampedOrLost (layoutOf g) (recordAt (layoutOf g) records) (pageAt (layoutOf g) chips) lost)
+    stamps-test =
         let l = layoutOf g in
-        rw (h .names, end, kept-is) (total-tags l (within l (fit .limited)) (recordAt l records) (statements .stripe) (pageAt l chips) lost)
+        rw (h .names, end, kept-is) (total-stamps l (within l (fit .limited)) (recordAt l records) (statements .stripe) (pageAt l chips) lost)
 
     -- the verdict as the code comes to it
     pub verdict : let l = layoutOf g in
@@ -172,18 +172,18 @@ module _ {g : Geometry} {records : List ℕ} {co : CollectionRecord} (pass : Rec
         ≡ sparesSound l (recordAt l records) (pageAt l chips) (collectionAt l records) lost
     verdict =
         let l = layoutOf g in
-        rw (tags-test, h .shapes, end, is .chip) (three-parts l (recordAt l records) (pageAt l chips) (collectionAt l records) lost chip-low)
+        rw (stamps-test, h .shapes, end, is .chip) (three-parts l (recordAt l records) (pageAt l chips) (collectionAt l records) lost chip-low)
 
     -- as many names as are kept: on the collection's chip, if it is not lost, every named page is rightly stamped
-    pub tags-pass : eqb named kept ≡ true → co .chip ≢ lost → TagsPass g chips records (co .chip)
-    tags-pass t d =
+    pub stamps-pass : eqb named kept ≡ true → co .chip ≢ lost → StampsPass g chips records (co .chip)
+    stamps-pass t d =
         let l = layoutOf g in
         let low : co .chip ≤ g .n = rw (is .chip) chip-low in
-        let tagged = taggedOrLost l (recordAt l records) (pageAt l chips) lost in
+        let stamped = stampedOrLost l (recordAt l records) (pageAt l chips) lost in
         record {
           chips-fit = fit;
           records-fit = pass .fit;
           chip = low;
-          tags = or-else (eqb (co .chip) lost) (allBelow (g .s) (taggedStripe l (recordAt l records) (pageAt l chips (co .chip)) (co .chip)))
-              (all-at (g .n + 1) tagged (sym tags-test ∙ t) (co .chip) (omega arith)) (ne-eqb (co .chip) lost d);
+          stamps = or-else (eqb (co .chip) lost) (allBelow (g .s) (stampedStripe l (recordAt l records) (pageAt l chips (co .chip)) (co .chip)))
+              (all-at (g .n + 1) stamped (sym stamps-test ∙ t) (co .chip) (omega arith)) (ne-eqb (co .chip) lost d);
         }

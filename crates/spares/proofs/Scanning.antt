@@ -28,12 +28,12 @@ use Rattle.rules.specs.Blocks.{cleanIn, usedIn, inOrder, cleanBlock, fullBlock,
 use Rattle.rules.specs.Sound.{twin}
 use Rattle.codec.specs.declared.Spare.{Spare}
 use Rattle.codec.specs.Views.{spareOf}
-use Rattle.names.specs.Stamps.{stamped}
+use Rattle.names.specs.Stamps.{byStamp}
 use Rattle.units.proofs.Tallies.{count-from}
 use Rattle.spares.specs.declared.Scan.{Scan}
 use Rattle.spares.specs.declared.ChipScan.{ChipScan}
 use Rattle.spares.specs.declared.Fill.{Fill}
-use Rattle.spares.specs.Scans.{unscanned, stampedIn, StampsOf, fillOf, stampedCount, loose, blockScan, chipScan, scanOf, chipScans}
+use Rattle.spares.specs.Scans.{unscanned, byStampIn, StampsOf, fillOf, byStampCount, loose, blockScan, chipScan, scanOf, chipScans}
 
 -- ---- page numbers
 
@@ -84,9 +84,9 @@ module _ {l : Layout} {x : ℕ → Page} {b : ℕ} {tags stripes : List ℕ} (h 
 
 -- order, fill and the number of names make the scan of the block
 pub block-scan : (l : Layout) (r : ℕ → Record) (x : ℕ → Page) (c b : ℕ) {o : Bool} {f : Fill} {named : ℕ}
-    → o ≡ orderedBlock l x b → f ≡ fillOf l x b → named ≡ countBelow (l .K) (stampedIn l r x c b)
+    → o ≡ orderedBlock l x b → f ≡ fillOf l x b → named ≡ countBelow (l .K) (byStampIn l r x c b)
     → record { ordered = o; clean = f .clean; full = f .full; named = named } ≡ blockScan l r x c b
-unfolding blockScan fillOf stampedCount
+unfolding blockScan fillOf byStampCount
 block-scan l r x c b o e n = rw (o, e, n)
 
 -- ---- the least so far, of those that are full and whose measure m is below a bound
@@ -129,7 +129,7 @@ module _ (full : ℕ → Bool) (m : ℕ → ℕ) (bound n : ℕ) where
 pub scan-start : (l : Layout) (r : ℕ → Record) (x : ℕ → Page) (c : ℕ)
     → record { ordered = true; clean = false; named = 0; victim = 0; fewest = l .K } ≡ chipScan l r x c 0
 unfolding chipScan allBelow someBelow whenFound
-scan-start l r x c = rw (zero-mul, count-start (stamped l r x c), least-start (loose l r x c) (stampedCount l r x c))
+scan-start l r x c = rw (zero-mul, count-start (byStamp l r x c), least-start (loose l r x c) (byStampCount l r x c))
 
 -- s with one block more, of which n is the scan; the victim is v, with f named pages
 abbrev withBlock : ChipScan → Scan → ℕ → ℕ → ChipScan
@@ -140,26 +140,26 @@ module _ (l : Layout) (r : ℕ → Record) (x : ℕ → Page) (c b : ℕ) {s : C
 
   -- no more names than pages
   pub scan-few : s .named + n .named ≤ (b + 1) * K
-  unfolding chipScan blockScan stampedCount
-  scan-few = rw (h, e, add-one, suc-mul) (omega (arith, count-le (b * K) (stamped l r x c), count-le K (stampedIn l r x c b)))
+  unfolding chipScan blockScan byStampCount
+  scan-few = rw (h, e, add-one, suc-mul) (omega (arith, count-le (b * K) (byStamp l r x c), count-le K (byStampIn l r x c b)))
 
   -- the victim is the one found
-  scan-more : (found : Found) {v f : ℕ} → leastBelow (suc b) (loose l r x c) (stampedCount l r x c) ≡ found
-      → v ≡ whenFound found (λ i. i) 0 → f ≡ whenFound found (stampedCount l r x c) K → withBlock s n v f ≡ chipScan l r x c (b + 1)
-  unfolding chipScan blockScan allBelow someBelow stampedCount
-  scan-more found is v f = rw (v, f, h, e, ← is, add-one, suc-mul, count-from (b * K) K (stamped l r x c))
+  scan-more : (found : Found) {v f : ℕ} → leastBelow (suc b) (loose l r x c) (byStampCount l r x c) ≡ found
+      → v ≡ whenFound found (λ i. i) 0 → f ≡ whenFound found (byStampCount l r x c) K → withBlock s n v f ≡ chipScan l r x c (b + 1)
+  unfolding chipScan blockScan allBelow someBelow byStampCount
+  scan-more found is v f = rw (v, f, h, e, ← is, add-one, suc-mul, count-from (b * K) K (byStamp l r x c))
 
   -- block b, where it is full and has fewer names than any before
   pub scan-takes : n .full && ltb (n .named) (s .fewest) ≡ true → withBlock s n b (n .named) ≡ chipScan l r x c (b + 1)
   unfolding chipScan blockScan loose whenFound
-  scan-takes t = scan-more (At b) (least-takes (fullBlock l x) (stampedCount l r x c) K b (rw (h, e) at t)) refl (rw e)
+  scan-takes t = scan-more (At b) (least-takes (fullBlock l x) (byStampCount l r x c) K b (rw (h, e) at t)) refl (rw e)
 
   -- or the one before
   pub scan-stays : n .full && ltb (n .named) (s .fewest) ≡ false → withBlock s n (s .victim) (s .fewest) ≡ chipScan l r x c (b + 1)
   unfolding chipScan blockScan loose
   scan-stays t =
-      let same = least-stays (fullBlock l x) (stampedCount l r x c) K b (rw (h, e) at t) in
-      scan-more (leastBelow b (loose l r x c) (stampedCount l r x c)) same (rw h) (rw h)
+      let same = least-stays (fullBlock l x) (byStampCount l r x c) K b (rw (h, e) at t) in
+      scan-more (leastBelow b (loose l r x c) (byStampCount l r x c)) same (rw h) (rw h)
 
 -- ---- all chips
 

@@ -14,10 +14,10 @@ use Rattle.layout.specs.Page.{Page}
 use Rattle.layout.specs.Record.{Record}
 use Rattle.layout.specs.Collection.{Collection}
 use Rattle.layout.specs.Rotation.{parityChip, memberOn}
-use Rattle.rules.specs.Names.{kindOn, memberTag}
+use Rattle.rules.specs.Names.{kindOn, memberByte}
 use Rattle.rules.specs.Blocks.{cleanBlock, fullBlock, orderedBlock}
 use Rattle.rules.specs.Sound.{phase1Sound, phase2Sound, sparesSound}
-use Rattle.names.specs.Stamps.{stamped}
+use Rattle.names.specs.Stamps.{byStamp}
 use Rattle.spares.specs.declared.Scan.{Scan}
 use Rattle.spares.specs.declared.ChipScan.{ChipScan}
 use Rattle.spares.specs.declared.Fill.{Fill}
@@ -43,9 +43,9 @@ unscanned = record { ordered = false; clean = false; named = 0; victim = 0; fewe
 module _ (l : Layout) where
   open Layout l using (N, K, B, S)
 
-  -- place i of block b of chip c is named by the record that it is stamped for
-  abbrev pub stampedIn : (ℕ → Record) → (ℕ → Page) → ℕ → ℕ → ℕ → Bool
-  stampedIn r x c b i = stamped l r x c (pageIn l b i)
+  -- place i of block b of chip c is named, told by its stamp
+  abbrev pub byStampIn : (ℕ → Record) → (ℕ → Page) → ℕ → ℕ → ℕ → Bool
+  byStampIn r x c b i = byStamp l r x c (pageIn l b i)
 
   -- the tags and stripes of the pages of block b
   pub record StampsOf (x : ℕ → Page) (b : ℕ) (tags stripes : List ℕ) : Type 0 where
@@ -58,7 +58,7 @@ module _ (l : Layout) where
 
   -- the tag of that page
   abbrev pub tagOn : ℕ → ℕ → ℕ
-  tagOn c j = kindOn l c j + 256 * memberTag l c j
+  tagOn c j = kindOn l c j + 256 * memberByte l c j
 
   -- the same offset for a page of chip c with a tag and stripe j; 255 where the tag is not right or there is no such stripe
   unfoldable pub fieldOf : ℕ → ℕ → ℕ → ℕ
@@ -77,13 +77,13 @@ module _ (l : Layout) where
   fillOf x b = record { clean = cleanBlock l x b; full = fullBlock l x b }
 
   module _ (r : ℕ → Record) (x : ℕ → Page) (c : ℕ) where
-    -- how many pages of block b are named by the records that they are stamped for
-    unfoldable pub stampedCount : ℕ → ℕ
-    stampedCount b = countBelow K (stampedIn r x c b)
+    -- how many pages of block b are named, told by their stamps
+    unfoldable pub byStampCount : ℕ → ℕ
+    byStampCount b = countBelow K (byStampIn r x c b)
 
     -- block b is full and not all its pages are
     unfoldable pub loose : ℕ → Bool
-    loose b = fullBlock l x b && ltb (stampedCount b) K
+    loose b = fullBlock l x b && ltb (byStampCount b) K
 
     -- of block b
     unfoldable pub blockScan : ℕ → Scan
@@ -92,7 +92,7 @@ module _ (l : Layout) where
           ordered = orderedBlock l x b;
           clean = cleanBlock l x b;
           full = fullBlock l x b;
-          named = stampedCount b;
+          named = byStampCount b;
         }
 
     -- of the blocks below b: all are in order, some block is wholly clean, so many pages are named; of the loose ones the victim has
@@ -102,9 +102,9 @@ module _ (l : Layout) where
         record {
           ordered = allBelow b (orderedBlock l x);
           clean = someBelow b (cleanBlock l x);
-          named = countBelow (b * K) (stamped l r x c);
-          victim = whenFound (leastBelow b loose stampedCount) (λ v. v) 0;
-          fewest = whenFound (leastBelow b loose stampedCount) stampedCount K;
+          named = countBelow (b * K) (byStamp l r x c);
+          victim = whenFound (leastBelow b loose byStampCount) (λ v. v) 0;
+          fewest = whenFound (leastBelow b loose byStampCount) byStampCount K;
         }
 
   -- of chip c, with the pages y of each chip: the blocks below b; no block of the lost chip, and of one that is not there

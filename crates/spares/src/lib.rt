@@ -27,8 +27,8 @@ ghost use Rattle.rules.specs.Sound.{phase1Sound, twinIn, phase2Sound, sparesSou
 ghost use Rattle.codec.specs.Fit.{ChipsFit, RecordsFit};
 ghost use Rattle.codec.specs.Views.{CollectionIs};
 ghost use Rattle.names.specs.Checked.{RecordsPass};
-ghost use Rattle.names.specs.Stamps.{namesIn, TagsPass};
-ghost use Rattle.spares.specs.Scans.{TagIs, stampedIn, StampsOf, fieldOf, FieldsOf, FieldsFit, hasNumber, fillOf, blockScan, chipScan, chipScans, survey, phaseSound};
+ghost use Rattle.names.specs.Stamps.{namesIn, StampsPass};
+ghost use Rattle.spares.specs.Scans.{TagIs, byStampIn, StampsOf, fieldOf, FieldsOf, FieldsFit, hasNumber, fillOf, blockScan, chipScan, chipScans, survey, phaseSound};
 
 // What a pass over the spares of a block brings.
 pub struct Scan {
@@ -197,7 +197,7 @@ fn count_named(
 ) -> usize
     requires { ⌜ RecordsFit g (now records) × (b < g .b) × FieldsFit (layoutOf g) (now stripes) (now fields) ⌝ }
     ensures { λ r. ⌜ ((x : ℕ → Page) (c : ℕ) (tags : List ℕ) → c ≤ g .n → StampsOf (layoutOf g) x b tags (now (stripes .entry)) → FieldsOf (layoutOf g) c tags (now (stripes .entry)) (now (fields .entry))
-        → r ≡ countBelow (g .k) (stampedIn (layoutOf g) (recordAt (layoutOf g) (now (records .entry))) x c b)) ⌝ }
+        → r ≡ countBelow (g .k) (byStampIn (layoutOf g) (recordAt (layoutOf g) (now (records .entry))) x c b)) ⌝ }
 {
     let k = g.k as usize;
     let first = b * k;
@@ -374,7 +374,7 @@ fn scan_all(chips: &[u8], records: &[u8], g: Geometry, lost: usize) -> [ChipScan
 
 // Phase 1: no record names a page of the destination d.
 fn phase1_passes(chips: &[u8], records: &[u8], g: Geometry, c: usize, d: usize) -> bool
-    requires { ⌜ TagsPass g (now chips) (now records) c × (d < g .b) ⌝ }
+    requires { ⌜ StampsPass g (now chips) (now records) c × (d < g .b) ⌝ }
     ensures { λ r. ⌜ r ≡ phase1Sound (layoutOf g) (recordAt (layoutOf g) (now (records .entry))) c d ⌝ }
 {
     let k = g.k as usize;
@@ -390,7 +390,7 @@ fn phase1_passes(chips: &[u8], records: &[u8], g: Geometry, c: usize, d: usize) 
 
 // How many pages of the destination d are the unnamed twin of page p.
 fn twins(chips: &[u8], records: &[u8], g: Geometry, c: usize, p: usize, d: usize) -> usize
-    requires { ⌜ TagsPass g (now chips) (now records) c × (p < pages (layoutOf g)) × (d < g .b) ⌝ }
+    requires { ⌜ StampsPass g (now chips) (now records) c × (p < pages (layoutOf g)) × (d < g .b) ⌝ }
     ensures { λ r. ⌜ r ≡ countBelow (g .k) (twinIn (layoutOf g) (recordAt (layoutOf g) (now (records .entry))) (pageAt (layoutOf g) (now (chips .entry)) c) c d p) ⌝ }
 {
     let k = g.k as usize;
@@ -416,7 +416,7 @@ fn twins(chips: &[u8], records: &[u8], g: Geometry, c: usize, p: usize, d: usize
 
 // Phase 2: each page named in the victim v has one twin in the destination d.
 fn phase2_passes(chips: &[u8], records: &[u8], g: Geometry, c: usize, v: usize, d: usize) -> bool
-    requires { ⌜ TagsPass g (now chips) (now records) c × (v < g .b) × (d < g .b) ⌝ }
+    requires { ⌜ StampsPass g (now chips) (now records) c × (v < g .b) × (d < g .b) ⌝ }
     ensures { λ r. ⌜ r ≡ phase2Sound (layoutOf g) (recordAt (layoutOf g) (now (records .entry))) (pageAt (layoutOf g) (now (chips .entry)) c) c v d ⌝ }
 {
     let k = g.k as usize;
@@ -435,7 +435,7 @@ fn phase2_passes(chips: &[u8], records: &[u8], g: Geometry, c: usize, v: usize, 
 
 // Whether the collection under way, if any, is sound on its chip.
 fn phase_passes(chips: &[u8], records: &[u8], g: Geometry, co: CollectionRecord) -> bool
-    requires { ⌜ TagsPass g (now chips) (now records) (co .chip) × RecordsPass g (now records) × CollectionIs co (collectionAt (layoutOf g) (now records)) ⌝ }
+    requires { ⌜ StampsPass g (now chips) (now records) (co .chip) × RecordsPass g (now records) × CollectionIs co (collectionAt (layoutOf g) (now records)) ⌝ }
     ensures { λ r. ⌜ r ≡ phaseSound (layoutOf g) (recordAt (layoutOf g) (now (records .entry))) (pageAt (layoutOf g) (now (chips .entry)) (co .chip)) (collectionAt (layoutOf g) (now (records .entry))) ⌝ }
 {
     if co.phase == 1 {

@@ -12,6 +12,12 @@ pub and-both : (a b : Bool) → a && b ≡ true → (a ≡ true) × (b ≡ true)
 and-both true b e = (refl, e)
 and-both false b e = absurd (false≢true e)
 
+pub and-left : (a b : Bool) → a && b ≡ true → a ≡ true
+and-left a b e = and-both a b e .0
+
+pub and-right : (a b : Bool) → a && b ≡ true → b ≡ true
+and-right a b e = and-both a b e .1
+
 pub both-and : {a b : Bool} → a ≡ true → b ≡ true → a && b ≡ true
 both-and p q = rw (p, q)
 

@@ -139,12 +139,12 @@ pub fn write_at(
     ensures { λ r. ⌜ Ran (layoutOf g) p (writeAt (layoutOf g) j m (now (bytes .entry)) q (images (now (chips .entry)) (now (records .entry)) (now (slots .entry))))
         r (images (now (chips .entry)) (now (records .entry)) (now (slots .entry))) (images (now (chips .exit)) (now (records .exit)) (now (slots .exit))) ⌝ }
 {
-    let tag = Spare {
+    let spare = Spare {
         kind: DATA,
         member: m,
         stripe: j,
         copied: NONE,
     };
-    let run = program(chips, g, member_chip(g, j, m), q, bytes, tag, 0, p);
+    let run = program(chips, g, member_chip(g, j, m), q, bytes, spare, 0, p);
     store_partial(chips, records, slots, g, j, m, bytes, q, free, run)
 }

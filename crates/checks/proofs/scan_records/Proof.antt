@@ -22,29 +22,34 @@ Inv-loop g records s most tops seen₀ tally₀ names₀ j₀ seen tally names j
 abbrev μ-loop : tie.MeasureT-loop
 μ-loop g records s most tops seen₀ tally₀ names₀ j₀ seen tally names j = g .s - j
 
+-- what the function was called with, before the loop
+abbrev start : tie.At-loop Inv-loop μ-loop → tie.Start Inv-loop μ-loop
+start c = c .before .before .before .before
+
 -- the limits hold
-limits : (s : tie.Start Inv-loop μ-loop) → Within (layoutOf (s .args .g))
-limits s = within (layoutOf (s .args .g)) (s .pre .limited)
+limits : (c : tie.At-loop Inv-loop μ-loop) → Within (layoutOf (start c .args .g))
+limits c = within (layoutOf (start c .args .g)) (start c .pre .limited)
 
 loop-holds : tie.Need-loop-holds Inv-loop μ-loop
-loop-holds c = (omega arith, passed-start)
+loop-holds c =
+    let a = c .before .before .before .args in
+    (omega arith, passed-start (c .no-tally .ensures (a .g) (recordAt (layoutOf (a .g)) (a .records .now))))
 
 add-names : tie.Need-add-names Inv-loop μ-loop
-add-names c =
-    let few = limits (c .before .before .before .before .before .before .before .before) .stripes-high in
-    omega arith
+add-names c = let few = limits (c .before .before .before .before .before) .stripes-high in omega arith
 
 with-record-requires : tie.Need-with-record-requires Inv-loop μ-loop
 with-record-requires c κs =
-    let start = c .before .before .before .before .before .before .before .before in
-    let loop = c .before .before .before .before .before .loop in
-    let few = limits start .stripes-high in
-    (start .pre .limited, omega (arith, loop .inv .1 .tally .counts, count-le (loop .j) (slotted (recordAt (layoutOf (start .args .g)) (start .args .records .now)))))
+    let o = c .before .before .before .before .before in
+    let s = start o in
+    let few = limits o .stripes-high in
+    (s .pre .limited, omega (arith, o .loop .inv .1 .tally .counts, count-le (o .loop .j) (slotted (recordAt (layoutOf (s .args .g)) (s .args .records .now)))))
 
 add-names-2 : tie.Need-add-names-2 Inv-loop μ-loop
 add-names-2 c =
-    let few = limits (c .before .before .before .before .before .before .before .before .before .before) .stripes-high in
-    let most = c .before .before .before .before .before .before .before .loop .inv .1 .few in
+    let o = c .before .before .before .before .before .before .before in
+    let few = limits o .stripes-high in
+    let most = o .loop .inv .1 .few in
     omega (arith, c .names-of .ensures .1)
 
 loop-again : tie.Need-loop-again Inv-loop μ-loop
@@ -56,18 +61,18 @@ loop-again c =
     (c .if1 .came)
 
 lowest-unmarked-requires : tie.Need-lowest-unmarked-requires Inv-loop μ-loop
-lowest-unmarked-requires c κs = limits (c .before .before .before .before .before .before .before .before .before) .partials-high
+lowest-unmarked-requires c κs = limits (c .before .before .before .before .before .before) .partials-high
 
 returns : tie.Need-returns Inv-loop μ-loop
 returns c =
-    let start = c .before .before .before .before .before .before .before .before .before .before in
-    let a = start .args in
-    let loop = c .before .before .before .before .before .before .before .loop in
+    let o = c .before .before .before .before .before .before .before in
+    let a = start o .args in
+    let p = o .loop .inv .1 in
     let r = recordAt (layoutOf (a .g)) (a .records .now) in
-    let all : loop .j ≡ a .g .s = omega arith in (
-      rw (c .before .before .before .collection-passes .ensures) (passed-all (loop .inv .1) all (collectionAt (layoutOf (a .g)) (a .records .now))),
-      loop .inv .1 .named ∙ ap (namesIn (layoutOf (a .g)) r) all,
-      rw (c .before .before .cheapest-in .ensures, c .lowest-unmarked .ensures) (passed-slots (loop .inv .1) all (limits start .partials-high)),
+    let all : o .loop .j ≡ a .g .s = omega arith in (
+      rw (c .before .before .before .collection-passes .ensures) (passed-all p all (collectionAt (layoutOf (a .g)) (a .records .now))),
+      p .named ∙ ap (namesIn (layoutOf (a .g)) r) all,
+      rw (c .before .before .cheapest-in .ensures, c .lowest-unmarked .ensures) (passed-slots p all (limits o .partials-high)),
     )
 
 pub scan-records-spec : {M : Type 1} → statement M
@@ -76,6 +81,7 @@ scan-records-spec =
     (tie.spec
     Inv-loop
     μ-loop
+    (λ c κs. search needs)
     (λ c κs. search needs)
     loop-holds
     (λ c κs. search needs)

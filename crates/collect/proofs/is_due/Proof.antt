@@ -9,7 +9,7 @@ use Rattle.layout.specs.Layout.{layoutOf, pages}
 use Rattle.layout.specs.Page.{pageAt}
 use Rattle.layout.specs.Record.{recordAt}
 use Rattle.layout.specs.Collection.{collectionAt}
-use Rattle.names.proofs.Statements.{tags-pass}
+use Rattle.names.proofs.Statements.{stamps-pass}
 use Rattle.collect.proofs.Dues.{pages-small, between, not-due, due-test}
 use Rattle.collect.proofs.is_due.Statement.{statement}
 use Rattle.collect.proofs.is_due.Tie as tie
@@ -56,13 +56,13 @@ named-at-requires : tie.Need-named-at-requires
 named-at-requires c κs =
     let s = c .before .before .before .before .before .before in
     let a = s .args in
-    (tags-pass (a .g) (now (a .chips)) (now (a .records)) (s .pre .0) (a .co .chip) (s .pre .2), original-fits (c .before))
+    (stamps-pass (a .g) (now (a .chips)) (now (a .records)) (s .pre .0) (a .co .chip) (s .pre .2), original-fits (c .before))
 
 named-at-requires-2 : tie.Need-named-at-requires-2
 named-at-requires-2 c κs =
     let s = c .before .before .before .before .before .before .before .before .before .before .before .before .before in
     let a = s .args in
-    (tags-pass (a .g) (now (a .chips)) (now (a .records)) (s .pre .0) (a .co .chip) (s .pre .2), s .pre .4)
+    (stamps-pass (a .g) (now (a .chips)) (now (a .records)) (s .pre .0) (a .co .chip) (s .pre .2), s .pre .4)
 
 returns-2 : tie.Need-returns-2
 returns-2 c =

@@ -9,7 +9,7 @@ use denote.Ref.{now}
 use borrow.Author.Needs.{needs}
 use Rattle.layout.specs.Layout.{layoutOf, none, pages}
 use Rattle.layout.proofs.Pages.{page-in-fits}
-use Rattle.copying.proofs.Copies.{Copying, copying-none, copying-skips, copying-more, copying-cut, copying-all, copying-room, copying-tags, copying-still, Begun, chosen}
+use Rattle.copying.proofs.Copies.{Copying, copying-none, copying-skips, copying-more, copying-cut, copying-all, copying-room, copying-stamps, copying-still, Begun, chosen}
 use Rattle.names.proofs.Statements.{some-slots, within}
 use Rattle.copying.proofs.copy_block.Statement.{statement}
 use Rattle.copying.proofs.copy_block.Tie as tie
@@ -86,7 +86,7 @@ named-at-requires c κs =
     let w = c .before .before in
     let t = w .before .before in
     let (zs, e) = some-slots (layoutOf (start (t .before) .args .g)) in
-    (copying-tags (begun (t .before)) zs e (t .loop .inv) (w .if1 .left), place w .0)
+    (copying-stamps (begun (t .before)) zs e (t .loop .inv) (w .if1 .left), place w .0)
 
 mul-copy-page : tie.Need-mul-copy-page Inv-loop μ-loop
 mul-copy-page c = omega (arith, place (c .before .before .before .before .before))

@@ -1,19 +1,19 @@
--- What `is_stamped` says of the page's own spare bytes is whether it is named, since every named page is rightly stamped.
+-- What `named_by_stamp` says of the page's own spare bytes is whether it is named, since every named page is rightly stamped.
 use mathlib.Core.Path.{sym, _∙_}
 use borrow.Author.Needs.{needs}
 use Rattle.layout.specs.Layout.{layoutOf}
 use Rattle.layout.specs.Page.{pageAt}
 use Rattle.layout.specs.Record.{recordAt}
 use Rattle.layout.proofs.Limits.{within}
-use Rattle.names.proofs.Stamping.{named-stamped}
+use Rattle.names.proofs.Stamping.{named-by-stamp}
 use Rattle.names.proofs.named_at.Statement.{statement}
 use Rattle.names.proofs.named_at.Tie as tie
 
 spare-at-requires : tie.Need-spare-at-requires
 spare-at-requires c κs = search needs
 
-is-stamped-requires : tie.Need-is-stamped-requires
-is-stamped-requires c κs = search needs
+named-by-stamp-requires : tie.Need-named-by-stamp-requires
+named-by-stamp-requires c κs = search needs
 
 returns : tie.Need-returns
 returns c =
@@ -22,8 +22,8 @@ returns c =
     let l = layoutOf (a .g) in
     let x = pageAt l (a .chips .now) (a .c) in
     let w = within l (s .pre .0 .chips-fit .limited) in
-    c .is-stamped .ensures x (sym (c .before .spare-at .ensures .0))
-    ∙ sym (named-stamped l w (recordAt l (a .records .now)) x (a .c) (s .pre .0 .tags) (a .p) (s .pre .1))
+    c .named-by-stamp .ensures x (sym (c .before .spare-at .ensures .0))
+    ∙ sym (named-by-stamp l w (recordAt l (a .records .now)) x (a .c) (s .pre .0 .stamps) (a .p) (s .pre .1))
 
 pub named-at-spec : {M : Type 1} → statement M
-named-at-spec = tie.close (tie.spec spare-at-requires is-stamped-requires returns)
+named-at-spec = tie.close (tie.spec spare-at-requires named-by-stamp-requires returns)

@@ -27,7 +27,7 @@ use Rattle.rules.proofs.Data.Contents.{StripeData, Data, pages-whole}
 use Rattle.rules.proofs.Data.Parity.{commit-data}
 use Rattle.rules.proofs.Data.Carries.{Carries, kept-carries, new-parity-kept}
 use Rattle.rules.proofs.Data.Entries.{committed-six, committed-sound, committed-main, committed-side}
-use Rattle.rules.proofs.Data.NewRecord.{NewPage, main-tagged, side-tagged, stored-here, stored-other, stored-copies, stored-data, stored-read}
+use Rattle.rules.proofs.Data.NewRecord.{NewPage, main-stamped, side-stamped, stored-here, stored-other, stored-copies, stored-data, stored-read}
 
 module _ (l : Layout) (u : Usable l) where
   open Layout l using (S)
@@ -76,10 +76,10 @@ module _ (l : Layout) (u : Usable l) where
     commit-sound : Sound l committedImages
     commit-sound =
         let y = pageAt l (t .chips) in
-        let main = main-tagged l u t (k .sound) j fits in
-        let side = side-tagged l u t (k .sound) j fits in
+        let main = main-stamped l u t (k .sound) j fits in
+        let side = side-stamped l u t (k .sound) j fits in
         sound-stripe l u t (k .sound) j r′ fits sound′ six rest (λ d. absurd (d no-slot))
-        (omega (arith, fewer, k .sound .stripes .few)) (committed-main l y j r main side p (new .tagged)) (committed-side l y j r main side p)
+        (omega (arith, fewer, k .sound .stripes .few)) (committed-main l y j r main side p (new .stamped)) (committed-side l y j r main side p)
 
     -- the parity page holds what a commit of t would put there
     same-record : recordAt l (s .records) j ≡ r

@@ -1,4 +1,4 @@
--- The records that a commit and a write store are sound, and the pages that they name are tagged.
+-- The records that a commit and a write store are sound, and the pages that they name are stamped.
 use Prim.Native.Nat.{ℕ, _+_, _≤_, _<_}
 use native.Mathlib.Decide.{ℕ-discrete}
 use native.Mathlib.Omega.{arith}
@@ -25,7 +25,7 @@ use Rattle.rules.specs.Names.{mainNumber, sideNumber}
 use Rattle.rules.specs.Gather.{bytesAt, gathered}
 use Rattle.rules.specs.Commit.{setBits, mostInPartial, currentOutside, oldInside, newParity, committed}
 use Rattle.rules.specs.Write.{newPartial, written}
-use Rattle.rules.proofs.Soundness.Statements.{Numbered, MemberSound, RecordSound, Tagged, Sound, sound-member}
+use Rattle.rules.proofs.Soundness.Statements.{Numbered, MemberSound, RecordSound, Stamped, Sound, sound-member}
 use Rattle.rules.proofs.Stores.Names.{main-member, side-member, main-parity, side-parity, by-chip}
 use Rattle.rules.proofs.Stores.Stays.{stays-same, member-same}
 use Rattle.rules.proofs.Data.Contents.{underParity, numbered-none, length-bytes-most, length-gathered, pages-whole, slot-whole, slot-bits}
@@ -114,16 +114,16 @@ module _ (l : Layout) where
         rest = refl;
       }
 
-  -- ---- the pages that they name, where those of r are tagged
+  -- ---- the pages that they name, where those of r are stamped
 
   -- on every chip: the page of a number
-  abbrev pub TaggedBy : (ℕ → ℕ → Page) → ℕ → (ℕ → ℕ) → Type 0
-  TaggedBy y j number = (c : ℕ) → c < N + 1 → number c ≢ none l → Tagged l (y c) c j (number c)
+  abbrev pub StampedBy : (ℕ → ℕ → Page) → ℕ → (ℕ → ℕ) → Type 0
+  StampedBy y j number = (c : ℕ) → c < N + 1 → number c ≢ none l → Stamped l (y c) c j (number c)
 
   module _ (y : ℕ → ℕ → Page) (j : ℕ) (r : Record)
-      (main : TaggedBy y j (λ c. mainNumber l c j r)) (side : TaggedBy y j (λ c. sideNumber l c j r)) where
+      (main : StampedBy y j (λ c. mainNumber l c j r)) (side : StampedBy y j (λ c. sideNumber l c j r)) where
     abbrev Good : ℕ → ℕ → Type 0
-    Good c p = p ≢ none l → Tagged l (y c) c j p
+    Good c p = p ≢ none l → Stamped l (y c) c j p
 
     good-parity : Good (parityChip l j) (r .parity)
     good-parity = rw (main-parity l j r) at (main (parityChip l j) (parity-chip-fits l j))
@@ -139,32 +139,32 @@ module _ (l : Layout) where
     good-under-parity m h = by-test (bit r m) (λ t. rw t (good-old m h)) (λ t. rw t (good-current m h))
 
     -- both numbers of another record, chip by chip
-    tagged-main : (r′ : Record) → Good (parityChip l j) (r′ .parity) → ((m : ℕ) → m < N → Good (memberChip l j m) (r′ .current m))
-        → TaggedBy y j (λ c. mainNumber l c j r′)
-    tagged-main r′ parity member c chip =
+    stamped-main : (r′ : Record) → Good (parityChip l j) (r′ .parity) → ((m : ℕ) → m < N → Good (memberChip l j m) (r′ .current m))
+        → StampedBy y j (λ c. mainNumber l c j r′)
+    stamped-main r′ parity member c chip =
         by-chip l c j chip (λ e. rw (e, main-parity l j r′) parity) (λ m h e. rw (e, main-member l j m r′) (member m h))
 
-    tagged-side : (r′ : Record) → ((m : ℕ) → m < N → Good (memberChip l j m) (r′ .old m)) → TaggedBy y j (λ c. sideNumber l c j r′)
-    tagged-side r′ member c chip =
+    stamped-side : (r′ : Record) → ((m : ℕ) → m < N → Good (memberChip l j m) (r′ .old m)) → StampedBy y j (λ c. sideNumber l c j r′)
+    stamped-side r′ member c chip =
         by-chip l c j chip (λ e. rw (e, side-parity l j r′) (λ d. absurd (d refl))) (λ m h e. rw (e, side-member l j m r′) (member m h))
 
-    pub committed-main : (p : ℕ) → Tagged l (y (parityChip l j)) (parityChip l j) j p → TaggedBy y j (λ c. mainNumber l c j (committed l p r))
+    pub committed-main : (p : ℕ) → Stamped l (y (parityChip l j)) (parityChip l j) j p → StampedBy y j (λ c. mainNumber l c j (committed l p r))
     unfolding committed
-    committed-main p new = tagged-main (committed l p r) (λ d. new) good-current
+    committed-main p new = stamped-main (committed l p r) (λ d. new) good-current
 
-    pub committed-side : (p : ℕ) → TaggedBy y j (λ c. sideNumber l c j (committed l p r))
+    pub committed-side : (p : ℕ) → StampedBy y j (λ c. sideNumber l c j (committed l p r))
     unfolding committed
-    committed-side p = tagged-side (committed l p r) (λ m h d. absurd (d refl))
+    committed-side p = stamped-side (committed l p r) (λ m h d. absurd (d refl))
 
     module _ (m p i : ℕ) where
-      pub written-main : Tagged l (y (memberChip l j m)) (memberChip l j m) j p → TaggedBy y j (λ c. mainNumber l c j (written l m p i r))
-      written-main new = tagged-main (written l m p i r) (rw (written-parity m p i r) good-parity) λ k h. elim (ℕ-discrete k m) [
+      pub written-main : Stamped l (y (memberChip l j m)) (memberChip l j m) j p → StampedBy y j (λ c. mainNumber l c j (written l m p i r))
+      written-main new = stamped-main (written l m p i r) (rw (written-parity m p i r) good-parity) λ k h. elim (ℕ-discrete k m) [
         | yes e ↦ rw (e, written-current l m p i r) (λ d. new)
         | no d ↦ rw (written-current-other l m p i r k d) (good-current k h)
       ]
 
-      pub written-side : TaggedBy y j (λ c. sideNumber l c j (written l m p i r))
-      written-side = tagged-side (written l m p i r) λ k h. elim (ℕ-discrete k m) [
+      pub written-side : StampedBy y j (λ c. sideNumber l c j (written l m p i r))
+      written-side = stamped-side (written l m p i r) λ k h. elim (ℕ-discrete k m) [
         | yes e ↦ rw (e, written-old l m p i r) (good-under-parity m (rw e at h))
         | no d ↦ rw (written-old-other l m p i r k d) (good-old k h)
       ]

@@ -17,30 +17,30 @@ use Rattle.layout.proofs.Records.{SixMembers}
 use Rattle.stores.specs.Store.{stripe, apply}
 use Rattle.rules.specs.Names.{mainNumber, sideNumber, named}
 use Rattle.rules.specs.Read.{fetch}
-use Rattle.rules.proofs.Soundness.Statements.{Usable, RecordSound, Tagged, Sound, sound-chip}
+use Rattle.rules.proofs.Soundness.Statements.{Usable, RecordSound, Stamped, Sound, sound-chip}
 use Rattle.rules.proofs.Stores.Kept.{CopiesOf, no-copies-yet}
 use Rattle.rules.proofs.Stores.Storing.{stripe-view, stripe-collection}
 use Rattle.rules.proofs.Data.Contents.{StripeData, Data}
 use Rattle.rules.proofs.Data.Carries.{same-read}
-use Rattle.rules.proofs.Data.Entries.{TaggedBy}
+use Rattle.rules.proofs.Data.Entries.{StampedBy}
 
 module _ (l : Layout) where
-  -- the new page of stripe j on chip c: it is whole, tagged, and no record names it yet
+  -- the new page of stripe j on chip c: it is whole, stamped, and no record names it yet
   pub record NewPage (s : Images) (c j p : ℕ) (xs : List ℕ) : Type 0 where
     pub fits : p < pages l
     pub unnamed : named l (recordAt l (s .records)) c p ≡ false
-    pub tagged : Tagged l (pageAt l (s .chips) c) c j p
+    pub stamped : Stamped l (pageAt l (s .chips) c) c j p
     pub bytes : pageAt l (s .chips) c p .bytes ≡ xs
 
 module _ (l : Layout) (u : Usable l) where
   open Layout l using (S)
 
-  -- the pages of stripe j are tagged
-  pub main-tagged : (t : Images) → Sound l t → (j : ℕ) → j < S → TaggedBy l (pageAt l (t .chips)) j (λ c. mainNumber l c j (recordAt l (t .records) j))
-  main-tagged t f j fits c chip = sound-chip l u t f c chip .main j fits
+  -- the pages of stripe j are stamped
+  pub main-stamped : (t : Images) → Sound l t → (j : ℕ) → j < S → StampedBy l (pageAt l (t .chips)) j (λ c. mainNumber l c j (recordAt l (t .records) j))
+  main-stamped t f j fits c chip = sound-chip l u t f c chip .main j fits
 
-  pub side-tagged : (t : Images) → Sound l t → (j : ℕ) → j < S → TaggedBy l (pageAt l (t .chips)) j (λ c. sideNumber l c j (recordAt l (t .records) j))
-  side-tagged t f j fits c chip = sound-chip l u t f c chip .side j fits
+  pub side-stamped : (t : Images) → Sound l t → (j : ℕ) → j < S → StampedBy l (pageAt l (t .chips)) j (λ c. sideNumber l c j (recordAt l (t .records) j))
+  side-stamped t f j fits c chip = sound-chip l u t f c chip .side j fits
 
   -- ---- any record of stripe j, stored on images t
 

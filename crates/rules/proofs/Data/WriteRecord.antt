@@ -35,7 +35,7 @@ use Rattle.rules.proofs.Data.Parity.{written-current, written-current-o
 use Rattle.rules.proofs.Data.Rebuild.{fetch-direct}
 use Rattle.rules.proofs.Data.Carries.{Wrote, kept-carries}
 use Rattle.rules.proofs.Data.Entries.{written-six, written-sound, written-main, written-side}
-use Rattle.rules.proofs.Data.NewRecord.{NewPage, main-tagged, side-tagged, stored-chips, stored-here, stored-other, stored-copies, stored-data, stored-read}
+use Rattle.rules.proofs.Data.NewRecord.{NewPage, main-stamped, side-stamped, stored-chips, stored-here, stored-other, stored-copies, stored-data, stored-read}
 
 module _ (l : Layout) (u : Usable l) where
   open Layout l using (N, W, S, M)
@@ -118,10 +118,10 @@ module _ (l : Layout) (u : Usable l) where
     write-sound : Sound l writtenImages
     write-sound =
         let y = pageAt l (t .chips) in
-        let main = main-tagged l u t (k .sound) j fits in
-        let side = side-tagged l u t (k .sound) j fits in
+        let main = main-stamped l u t (k .sound) j fits in
+        let side = side-stamped l u t (k .sound) j fits in
         sound-stripe l u t (k .sound) j r′ fits sound′ six rest (λ _ n h d e. free n h (e ∙ its-slot))
-        still-few (written-main l y j r main side m p i (new .tagged)) (written-side l y j r main side m p i)
+        still-few (written-main l y j r main side m p i (new .stamped)) (written-side l y j r main side m p i)
 
     -- the slot holds what a write on t would put there
     new-partial : newPartial l (pageAt l (s .chips)) (slotAt l (s .slots)) j m xs (recordAt l (s .records) j)

@@ -19,14 +19,14 @@ use Rattle.rules.specs.Collect.{collectable, namedCount, victimOf, copyF
 use Rattle.rules.specs.Commit.{setBits, costOf, cheapest, currentOutside, oldInside, newParity, newParityReads, committed, commitAt, commitSteps}
 use Rattle.rules.specs.Format.{formatSteps}
 use Rattle.rules.specs.Gather.{bytesAt, readsAt, gathered, gatheredReads}
-use Rattle.rules.specs.Names.{mainNumber, sideNumber, kindOn, memberTag, names, named}
+use Rattle.rules.specs.Names.{mainNumber, sideNumber, kindOn, memberByte, names, named}
 use Rattle.rules.specs.Open.{repointed, due, moveFrom, moveSteps, finishOf, finishSteps, openSteps}
 use Rattle.rules.specs.Place.{openBlock, lowestCleanPage, placeOf, roomSteps, atPlace, placed}
 use Rattle.rules.specs.Read.{othersInside, othersUnderParity, throughPartial, throughParity, fetchMember, fetch}
 use Rattle.rules.specs.Refusals.{buffersRows, imagesRows, readRows, settledRows, writeRows, commitRows, collectRows}
-use Rattle.rules.specs.Sound.{memberSound, recordSound, collectionSound, recordsSound, taggedStripe, phase1Sound, twin, phase2Sound, chipSound, sparesSound}
+use Rattle.rules.specs.Sound.{memberSound, recordSound, collectionSound, recordsSound, stampedStripe, phase1Sound, twin, phase2Sound, chipSound, sparesSound}
 use Rattle.rules.specs.Write.{commitOwed, owedSteps, lowestFreeSlot, newPartial, newPartialReads, written, slotSteps, writeAt, writeMember, writeSteps}
 
 unfoldable pub computes : ℕ
-unfolding allBelow someBelow countBelow whenFound firstBelow leastBelow number digits part put unit unitPut at _⊕_ xorBelow collectionOf bytesOfCollection collectionAt chipsLength recordsLength slotsLength lengths slotAt none limits pageOf bytesOfPage pageAt bit row sixFrom recordOf bytesOfRecord emptyRecord recordAt parityChip memberChip memberOn applyAll andThen counted countedAll stepsBelow thenBelow programmed erased recorded apply cleanBlock fullBlock orderedBlock lowestCleanBlock run formatCall openCall writeCall commitCall collectCall readCall collectable namedCount victimOf copyFrom copySteps collectSteps setBits costOf cheapest currentOutside oldInside newParity newParityReads committed commitAt commitSteps formatSteps bytesAt readsAt gathered gatheredReads mainNumber sideNumber kindOn memberTag names named repointed due moveFrom moveSteps finishOf finishSteps openSteps openBlock lowestCleanPage placeOf roomSteps atPlace placed othersInside othersUnderParity throughPartial throughParity fetchMember fetch buffersRows imagesRows readRows settledRows writeRows commitRows collectRows memberSound recordSound collectionSound recordsSound taggedStripe phase1Sound twin phase2Sound chipSound sparesSound commitOwed owedSteps lowestFreeSlot newPartial newPartialReads written slotSteps writeAt writeMember writeSteps
+unfolding allBelow someBelow countBelow whenFound firstBelow leastBelow number digits part put unit unitPut at _⊕_ xorBelow collectionOf bytesOfCollection collectionAt chipsLength recordsLength slotsLength lengths slotAt none limits pageOf bytesOfPage pageAt bit row sixFrom recordOf bytesOfRecord emptyRecord recordAt parityChip memberChip memberOn applyAll andThen counted countedAll stepsBelow thenBelow programmed erased recorded apply cleanBlock fullBlock orderedBlock lowestCleanBlock run formatCall openCall writeCall commitCall collectCall readCall collectable namedCount victimOf copyFrom copySteps collectSteps setBits costOf cheapest currentOutside oldInside newParity newParityReads committed commitAt commitSteps formatSteps bytesAt readsAt gathered gatheredReads mainNumber sideNumber kindOn memberByte names named repointed due moveFrom moveSteps finishOf finishSteps openSteps openBlock lowestCleanPage placeOf roomSteps atPlace placed othersInside othersUnderParity throughPartial throughParity fetchMember fetch buffersRows imagesRows readRows settledRows writeRows commitRows collectRows memberSound recordSound collectionSound recordsSound stampedStripe phase1Sound twin phase2Sound chipSound sparesSound commitOwed owedSteps lowestFreeSlot newPartial newPartialReads written slotSteps writeAt writeMember writeSteps
 computes = 0

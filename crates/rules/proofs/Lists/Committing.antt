@@ -21,7 +21,7 @@ use Rattle.stores.specs.Steps.{Step, plain}
 use Rattle.stores.proofs.Prefixes.{Closes, closes-two}
 use Rattle.rules.specs.Commit.{newParity, newParityReads, parityPage, committed, commitAt, commitSteps}
 use Rattle.rules.proofs.Soundness.Statements.{Usable, Sound}
-use Rattle.rules.proofs.Stores.Names.{kind-parity, tag-parity}
+use Rattle.rules.proofs.Stores.Names.{kind-parity, stamp-parity}
 use Rattle.rules.proofs.Stores.Kept.{Kept, kept-refl, kept-trans}
 use Rattle.rules.proofs.Data.Carries.{Carries, carries-trans, kept-carries}
 use Rattle.rules.proofs.Data.NewRecord.{NewPage}
@@ -87,7 +87,7 @@ module _ (l : Layout) (u : Usable l) where
 
       new : NewPage l t₁ (parityChip l j) j p (newParity l (pageAt l (t .chips)) (slotAt l (t .slots)) j (recordAt l (t .records) j))
       new =
-          fill-new l u t g rest (parityChip l j) (parity-chip-fits l j) p o page page-fits (omega arith) j refl (sym (kind-parity l j)) (sym (tag-parity l j))
+          fill-new l u t g rest (parityChip l j) (parity-chip-fits l j) p o page page-fits (omega arith) j refl (sym (kind-parity l j)) (sym (stamp-parity l j))
 
       last : Committed l j t (apply l (stripe j (committed l p (recordAt l (t₁ .records) j))) t₁)
       unfolding apply

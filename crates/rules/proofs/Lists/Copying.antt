@@ -28,7 +28,7 @@ use Rattle.rules.specs.Blocks.{cleanIn, namedIn, unnamedIn, cleanBlock}
 use Rattle.rules.specs.Sound.{collecting, twinIn}
 use Rattle.rules.specs.Collect.{phase, copyOf, copyFrom, copySteps}
 use Rattle.rules.proofs.Soundness.Statements.{Usable, CollectionSound, ChipSound, OneTwin, Sound, sound-chip}
-use Rattle.rules.proofs.Stores.Names.{named-by, name-tagged, named-used, clean-block-unnamed}
+use Rattle.rules.proofs.Stores.Names.{named-by, name-stamped, named-used, clean-block-unnamed}
 use Rattle.rules.proofs.Stores.Chips.{Fillable}
 use Rattle.rules.proofs.Stores.Kept.{Copies, Kept, kept-refl, kept-trans, no-copies-yet}
 use Rattle.rules.proofs.Stores.Twins.{twin-is, is-twin}
@@ -106,7 +106,7 @@ module _ (l : Layout) (u : Usable l) where
     destination-unnamed : (i : ℕ) → i < K → named l r c (pageIn l d i) ≡ false
     destination-unnamed = clean-block-unnamed l r x c (collectionAt l (s .records)) here (u .within) d (o .destination) (o .is-clean)
 
-    -- a page that is named is used, tagged and fits its field
+    -- a page that is named is used, stamped and fits its field
     module _ (i : ℕ) (place : i < K) (n : isNamed i ≡ true) where
       abbrev p : ℕ
       p = pageIn l v i
@@ -120,7 +120,7 @@ module _ (l : Layout) (u : Usable l) where
       copy-fits : PageFits l (copyOf p (x p))
       copy-fits =
           let j = named-by l r c p n in
-          let t = name-tagged l r x c (collectionAt l (s .records)) here p (j .0) (j .1) is-page (j .2) in
+          let t = name-stamped l r x c (collectionAt l (s .records)) here p (j .0) (j .1) is-page (j .2) in
           record {
             whole = pages-whole l s (f .chips) c p (o .chip) (page-in-fits l v i (o .victim) place);
             stripe = omega (arith, t .stripe, j .1, u .within .stripes-high);

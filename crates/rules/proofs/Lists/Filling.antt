@@ -14,7 +14,7 @@ use Rattle.layout.specs.Images.{Images}
 use Rattle.layout.proofs.Codec.{PageFits}
 use Rattle.layout.proofs.Pages.{page-in-fits, page-number}
 use Rattle.stores.specs.Store.{program, apply}
-use Rattle.rules.specs.Names.{kindOn, memberTag, named}
+use Rattle.rules.specs.Names.{kindOn, memberByte, named}
 use Rattle.rules.proofs.Soundness.Statements.{Usable, Sound, sound-chip}
 use Rattle.rules.proofs.Stores.Names.{clean-unnamed}
 use Rattle.rules.proofs.Stores.Kept.{Kept}
@@ -46,13 +46,13 @@ module _ (l : Layout) (u : Usable l) (t : Images) (g : Sound l t) (rest : collec
       (page-number l (u .within) p fits-in) (rw (o .is) (o .fillable .is-clean))
 
   -- and the page is new
-  pub fill-new : (j : ℕ) → page .stripe ≡ j → page .kind ≡ kindOn l c j → page .member ≡ memberTag l c j
+  pub fill-new : (j : ℕ) → page .stripe ≡ j → page .kind ≡ kindOn l c j → page .member ≡ memberByte l c j
       → NewPage l (apply l (program c p page) t) c j p (page .bytes)
   unfolding apply
   fill-new j stripe kind member = record {
     fits = fits-in;
     unnamed = not-named;
-    tagged = record {
+    stamped = record {
       stripe = ap (λ (y : Page). y .stripe) filled ∙ stripe;
       kind = ap (λ (y : Page). y .kind) filled ∙ kind;
       member = ap (λ (y : Page). y .member) filled ∙ member;

@@ -30,7 +30,7 @@ use Rattle.rules.specs.Write.{commitOwed, owedSteps, dataPage, lowestFre
 use Rattle.rules.specs.Commit.{commitSteps}
 use Rattle.rules.specs.Place.{placed}
 use Rattle.rules.proofs.Soundness.Statements.{Usable, Sound}
-use Rattle.rules.proofs.Stores.Names.{kind-member, tag-member}
+use Rattle.rules.proofs.Stores.Names.{kind-member, stamp-member}
 use Rattle.rules.proofs.Stores.Kept.{Kept, kept-refl, kept-trans}
 use Rattle.rules.proofs.Stores.Storing.{kept-slot, slot-view}
 use Rattle.rules.proofs.Data.Carries.{Carries, Wrote, carries-refl, carries-trans, carries-wrote, kept-carries}
@@ -136,7 +136,7 @@ module _ (l : Layout) (u : Usable l) (page : ℕ) (inside : page < l .N * l .S) 
       unfolding apply
       last =
           write-wrote l u t t₂ slot-stored refl refl rest page p i xs inside whole
-          (record { fits = new .fits; unnamed = new .unnamed; tagged = new .tagged; bytes = new .bytes })
+          (record { fits = new .fits; unnamed = new .unnamed; stamped = new .stamped; bytes = new .bytes })
           place free partial-there left
 
     slot-closes : Closes l (Kept l) (Wrote l page xs) (StoresRecord j) (slotSteps l j m xs p t) t
@@ -165,7 +165,7 @@ module _ (l : Layout) (u : Usable l) (page : ℕ) (inside : page < l .N * l .S) 
 
     new-page : NewPage l t₁ c j p xs
     new-page =
-        fill-new l u t g rest c chip p o (dataPage l j m xs) page-fits (omega arith) j refl (sym (kind-member l j m)) (sym (tag-member l j m))
+        fill-new l u t g rest c chip p o (dataPage l j m xs) page-fits (omega arith) j refl (sym (kind-member l j m)) (sym (stamp-member l j m))
 
     same-phase : collectionAt l (t₁ .records) .phase ≡ 0
     unfolding apply

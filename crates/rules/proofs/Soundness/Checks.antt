@@ -47,7 +47,7 @@ module _ (l : Layout) where
         stripes = records-sound l r co records;
         chip = λ c low d.
             chip-sound l r (pageAt l (s .chips) c) c co
-            (unless-equal c lost (chipSound l r (pageAt l (s .chips) c) c co) (all-at (N + 1) (soundOrLost l r (pageAt l (s .chips)) co lost) spares c low) d);
+            (unless-equal c lost (chipSound l r (pageAt l (s .chips) c) c co) (all-at _ (soundOrLost l r (pageAt l (s .chips)) co lost) spares c low) d);
       }
 
   module _ (s : Images) (lost : ℕ) (h : SoundBut l lost s) where

@@ -9,41 +9,36 @@ use lib.Dec.{eqb}
 use borrow.Author.Tests.{eqb-true, not-true, eq-eqb}
 use Rattle.units.specs.Look.{allBelow, someBelow, countBelow}
 use Rattle.units.proofs.Looks.{all-true, all-at, some-true, some-at}
-use Rattle.units.proofs.Tests.{and-both, both-and, chain-all, cond-by, cond-equal, cond-equal-by, cond-other, cond-true, false-not, under, under-by, unless-equal}
+use Rattle.units.proofs.Tests.{and-both, and-left, and-right, both-and, chain-all, cond-by, cond-equal, cond-equal-by, cond-other, cond-true, false-not, under, under-by, unless-equal}
 use Rattle.units.proofs.Tests.{unless-equal-by, cond-false}
 use Rattle.units.proofs.Counts.{count-one, one-count}
 use Rattle.layout.specs.Layout.{Layout, none, pageIn}
 use Rattle.layout.specs.Page.{Page}
 use Rattle.layout.specs.Record.{Record}
 use Rattle.layout.specs.Collection.{Collection}
-use Rattle.rules.specs.Names.{mainNumber, sideNumber, kindOn, memberTag, named}
+use Rattle.rules.specs.Names.{mainNumber, sideNumber, kindOn, memberByte, named}
 use Rattle.rules.specs.Blocks.{cleanIn, cleanBlock, inOrder, orderedBlock, namedIn, unnamedIn}
-use Rattle.rules.specs.Sound.{collecting, taggedPage, taggedNumber, taggedStripe, phase1Sound, twinIn, oneTwin, phase2Sound, chipSound}
-use Rattle.rules.proofs.Soundness.Statements.{Tagged, OneTwin, ChipSound}
+use Rattle.rules.specs.Sound.{collecting, stampedPage, stampedNumber, stampedStripe, phase1Sound, twinIn, oneTwin, phase2Sound, chipSound}
+use Rattle.rules.proofs.Soundness.Statements.{Stamped, OneTwin, ChipSound}
 use Rattle.rules.proofs.Stores.Twins.{twin-is, is-twin}
 
 module _ (l : Layout) where
   open Layout l using (K, B, S)
 
-  tagged : (x : ℕ → Page) (c j p : ℕ) → taggedNumber l x c j p ≡ true → p ≢ none l → Tagged l x c j p
-  tagged x c j p e d =
-      let t = unless-equal p (none l) (taggedPage l x c j p) e d in
-      let h = chain-all (eqb (x p .stripe) j) (eqb (x p .kind) (kindOn l c j) ∷ eqb (x p .member) (memberTag l c j) ∷ []) t in
-      record {
-        stripe = eqb-true (x p .stripe) j (h .0);
-        kind = eqb-true (x p .kind) (kindOn l c j) (h .1 .0);
-        member = eqb-true (x p .member) (memberTag l c j) (h .1 .1 .0);
-      }
+  stamped : (x : ℕ → Page) (c j p : ℕ) → stampedNumber l x c j p ≡ true → p ≢ none l → Stamped l x c j p
+  stamped x c j p e d =
+      let t = unless-equal p (none l) (stampedPage l x c j p) e d in
+      search (eqb-true, and-left, and-right)
 
-  tagged-pass : (x : ℕ → Page) (c j p : ℕ) → (p ≢ none l → Tagged l x c j p) → taggedNumber l x c j p ≡ true
-  tagged-pass x c j p h =
-      unless-equal-by p (none l) (taggedPage l x c j p)
+  stamped-pass : (x : ℕ → Page) (c j p : ℕ) → (p ≢ none l → Stamped l x c j p) → stampedNumber l x c j p ≡ true
+  stamped-pass x c j p h =
+      unless-equal-by p (none l) (stampedPage l x c j p)
       (λ d. let t = h d in
-      rw (eq-eqb (x p .stripe) j (t .stripe), eq-eqb (x p .kind) (kindOn l c j) (t .kind), eq-eqb (x p .member) (memberTag l c j) (t .member)))
+      rw (eq-eqb (x p .stripe) j (t .stripe), eq-eqb (x p .kind) (kindOn l c j) (t .kind), eq-eqb (x p .member) (memberByte l c j) (t .member)))
 
   ordered : (x : ℕ → Page) (b i : ℕ) → orderedBlock l x b ≡ true → i + 1 < K → cleanIn l x b i ≡ true → cleanIn l x b (i + 1) ≡ true
   unfolding orderedBlock
-  ordered x b i e h t = under (cleanIn l x b i) (cleanIn l x b (i + 1)) (all-at (K - 1) (inOrder l x b) e i (omega arith)) t
+  ordered x b i e h t = rw t at (all-at (K - 1) (inOrder l x b) e i (omega arith))
 
   ordered-pass : (x : ℕ → Page) (b : ℕ) → ((i : ℕ) → i + 1 < K → cleanIn l x b i ≡ true → cleanIn l x b (i + 1) ≡ true) → orderedBlock l x b ≡ true
   unfolding orderedBlock
@@ -101,15 +96,15 @@ module _ (l : Layout) where
         (λ i low. let p = pageIn l victim i in
         under-by (named l r c p) (eqb (countBelow K (twinIn l r x c destination p)) 1) (λ t. twin-one destination p (h i low t)))
 
-    tags : (j : ℕ) → taggedStripe l r x c j ≡ true
-        → (taggedNumber l x c j (mainNumber l c j (r j)) ≡ true) × (taggedNumber l x c j (sideNumber l c j (r j)) ≡ true)
-    unfolding taggedStripe
-    tags j = and-both (taggedNumber l x c j (mainNumber l c j (r j))) (taggedNumber l x c j (sideNumber l c j (r j)))
+    stamps : (j : ℕ) → stampedStripe l r x c j ≡ true
+        → (stampedNumber l x c j (mainNumber l c j (r j)) ≡ true) × (stampedNumber l x c j (sideNumber l c j (r j)) ≡ true)
+    unfolding stampedStripe
+    stamps j = and-both (stampedNumber l x c j (mainNumber l c j (r j))) (stampedNumber l x c j (sideNumber l c j (r j)))
 
-    tags-pass : (co : Collection) → ChipSound l r x c co → (j : ℕ) → j < S → taggedStripe l r x c j ≡ true
-    unfolding taggedStripe
-    tags-pass co h j low =
-        both-and (tagged-pass x c j (mainNumber l c j (r j)) (h .main j low)) (tagged-pass x c j (sideNumber l c j (r j)) (h .side j low))
+    stamps-pass : (co : Collection) → ChipSound l r x c co → (j : ℕ) → j < S → stampedStripe l r x c j ≡ true
+    unfolding stampedStripe
+    stamps-pass co h j low =
+        both-and (stamped-pass x c j (mainNumber l c j (r j)) (h .main j low)) (stamped-pass x c j (sideNumber l c j (r j)) (h .side j low))
 
     -- the test of a chip, one way and the other
     pub chip-sound : (co : Collection) → chipSound l r x c co ≡ true → ChipSound l r x c co
@@ -118,11 +113,11 @@ module _ (l : Layout) where
         let blank = someBelow B (cleanBlock l x) in
         let one = phase1Sound l r c (co .destination) in
         let two = phase2Sound l r x c (co .victim) (co .destination) in
-        let h = chain-all (allBelow S (taggedStripe l r x c)) (allBelow B (orderedBlock l x) ∷ cond (collecting co c) (phaseTest co) blank ∷ []) e in
+        let h = chain-all (allBelow S (stampedStripe l r x c)) (allBelow B (orderedBlock l x) ∷ cond (collecting co c) (phaseTest co) blank ∷ []) e in
         let phases : collecting co c ≡ true → phaseTest co ≡ true = cond-true (collecting co c) (phaseTest co) blank (h .1 .1 .0) in
         record {
-          main = λ j low. tagged x c j (mainNumber l c j (r j)) (tags j (all-at S (taggedStripe l r x c) (h .0) j low) .0);
-          side = λ j low. tagged x c j (sideNumber l c j (r j)) (tags j (all-at S (taggedStripe l r x c) (h .0) j low) .1);
+          main = λ j low. stamped x c j (mainNumber l c j (r j)) (stamps j (all-at S (stampedStripe l r x c) (h .0) j low) .0);
+          side = λ j low. stamped x c j (sideNumber l c j (r j)) (stamps j (all-at S (stampedStripe l r x c) (h .0) j low) .1);
           order = λ b i low. ordered x b i (all-at B (orderedBlock l x) (h .1 .0) b low);
           spare = λ f. some-at B (cleanBlock l x) (cond-false (collecting co c) (phaseTest co) blank (h .1 .1 .0) f);
           phase-1 = λ q here. phase-1-sound (co .destination) (cond-equal (co .phase) 1 one two (phases (collecting-in co c 1 refl q here)) q);
@@ -144,5 +139,5 @@ module _ (l : Layout) where
     pub chip-pass : (co : Collection) → ChipSound l r x c co → chipSound l r x c co ≡ true
     unfolding chipSound
     chip-pass co h =
-        rw (all-true S (taggedStripe l r x c) (tags-pass co h), all-true B (orderedBlock l x) (λ b low. ordered-pass x b (λ i. h .order b i low)))
+        rw (all-true S (stampedStripe l r x c) (stamps-pass co h), all-true B (orderedBlock l x) (λ b low. ordered-pass x b (λ i. h .order b i low)))
         (cond-by (collecting co c) (phaseTest co) (someBelow B (cleanBlock l x)) (phase-pass co h) (spare-pass co h))

@@ -13,7 +13,7 @@ use Rattle.layout.specs.Record.{Record, bit, noSlot, slotted, recordAt}
 use Rattle.layout.specs.Collection.{Collection, collectionAt, idle}
 use Rattle.layout.specs.Images.{Images, chipsLength, recordsLength, slotsLength}
 use Rattle.layout.proofs.Limits.{Within}
-use Rattle.rules.specs.Names.{mainNumber, sideNumber, kindOn, memberTag, named}
+use Rattle.rules.specs.Names.{mainNumber, sideNumber, kindOn, memberByte, named}
 use Rattle.rules.specs.Blocks.{cleanIn, cleanBlock}
 use Rattle.rules.specs.Sound.{collecting}
 
@@ -79,10 +79,10 @@ module _ (l : Layout) where
     pub collection : CollectionSound co
 
   -- page p of chip c "has that stripe, kind and member"
-  pub record Tagged (x : ℕ → Page) (c j p : ℕ) : Type 0 where
+  pub record Stamped (x : ℕ → Page) (c j p : ℕ) : Type 0 where
     pub stripe : x p .stripe ≡ j
     pub kind : x p .kind ≡ kindOn l c j
-    pub member : x p .member ≡ memberTag l c j
+    pub member : x p .member ≡ memberByte l c j
 
   -- page q has "the same kind, member and stripe" as p, is "copied from it and named by no record"
   pub record IsTwin (r : ℕ → Record) (x : ℕ → Page) (c p q : ℕ) : Type 0 where
@@ -102,8 +102,8 @@ module _ (l : Layout) where
   -- one chip c, with its pages x
   pub record ChipSound (r : ℕ → Record) (x : ℕ → Page) (c : ℕ) (co : Collection) : Type 0 where
     -- "each page a record names has that stripe, kind and member"
-    pub main : (j : ℕ) → j < S → mainNumber l c j (r j) ≢ none l → Tagged x c j (mainNumber l c j (r j))
-    pub side : (j : ℕ) → j < S → sideNumber l c j (r j) ≢ none l → Tagged x c j (sideNumber l c j (r j))
+    pub main : (j : ℕ) → j < S → mainNumber l c j (r j) ≢ none l → Stamped x c j (mainNumber l c j (r j))
+    pub side : (j : ℕ) → j < S → sideNumber l c j (r j) ≢ none l → Stamped x c j (sideNumber l c j (r j))
     -- "no used page follows a clean one in a block"
     pub order : (b i : ℕ) → b < B → i + 1 < K → cleanIn l x b i ≡ true → cleanIn l x b (i + 1) ≡ true
     -- "some block is wholly clean, unless a collection is in phase 1 or 2 on that chip"

@@ -27,7 +27,7 @@ use Rattle.rules.specs.Place.{openBlock, placeOf}
 use Rattle.rules.specs.Commit.{cheapest, recordCost}
 use Rattle.rules.specs.Write.{commitOwed, freeSlot, lowestFreeSlot}
 use Rattle.rules.proofs.Soundness.Statements.{RecordsSound, ChipSound}
-use Rattle.rules.proofs.Stores.Names.{by-name, named-by, name-tagged, side-slot}
+use Rattle.rules.proofs.Stores.Names.{by-name, named-by, name-stamped, side-slot}
 use Rattle.rules.proofs.Stores.Chips.{Fillable, CleanBut}
 use Rattle.rules.proofs.Space.Places.{clean-at, open-begun, is-open, all-full, place-begun, place-fresh, place-nowhere, by-place}
 
@@ -112,7 +112,7 @@ module _ (l : Layout) (w : Within l) where
     held-stripe : (p : ℕ) → Held p → (x p .stripe < S) × (names l r c p (x p .stripe) ≡ true)
     held-stripe p h =
         let (j, low, t) = named-by l r c p (h .1) in
-        rw (name-tagged l r x c co f p j low (page-number l w p (h .0)) t .stripe) (low, t)
+        rw (name-stamped l r x c co f p j low (page-number l w p (h .0)) t .stripe) (low, t)
 
     by-holder {ℓ} : {P : Type ℓ} (p : ℕ) → Held p
         → (x p .stripe < S → mainOf (x p .stripe) ≡ p → holder p ≡ x p .stripe → P)
@@ -187,7 +187,7 @@ module _ (l : Layout) (w : Within l) where
 
   -- a slot that passes for free is no record's
   free-of : (r : ℕ → Record) (i : ℕ) → freeSlot l r i ≡ true → (j : ℕ) → j < S → r j .slot ≢ i
-  free-of r i t j fits = eqb-false (r j .slot) i (some-none S (slotOf r i) (not-true (someBelow S (slotOf r i)) t) j fits)
+  free-of r i t j fits = eqb-false (r j .slot) i (some-none _ (slotOf r i) (not-true _ t) j fits)
 
   -- the stripe that has slot i
   user : (ℕ → Record) → ℕ → ℕ

@@ -24,8 +24,8 @@ use Rattle.stores.proofs.View.{wiped, erased-clean}
 use Rattle.rules.specs.Names.{mainNumber, sideNumber, names, named}
 use Rattle.rules.specs.Blocks.{cleanIn, cleanBlock}
 use Rattle.rules.specs.Sound.{collecting}
-use Rattle.rules.proofs.Soundness.Statements.{Usable, Numbered, RecordSound, CollectionSound, RecordsSound, Tagged, OneTwin, ChipSound}
-use Rattle.rules.proofs.Stores.Names.{main-names, side-names, name-named, name-tagged, named-used}
+use Rattle.rules.proofs.Soundness.Statements.{Usable, Numbered, RecordSound, CollectionSound, RecordsSound, Stamped, OneTwin, ChipSound}
+use Rattle.rules.proofs.Stores.Names.{main-names, side-names, name-named, name-stamped, named-used}
 
 module _ (l : Layout) where
   open Layout l using (K, B, S, M, D)
@@ -117,20 +117,20 @@ module _ (l : Layout) where
     unfolding wiped
     wiped-other d i other h = rw (in-other-block l b d i other h)
 
-  -- tags stay where named pages do
+  -- stamps stay where named pages do
   module _ (r : ℕ → Record) (x x′ : ℕ → Page) (c : ℕ) (co : Collection) (f : ChipSound l r x c co)
       (same : (p : ℕ) → p ≢ none l → named l r c p ≡ true → x′ p ≡ x p) where
-    tag-stays : (p j : ℕ) → j < S → p ≢ none l → names l r c p j ≡ true → Tagged l x′ c j p
-    tag-stays p j h d t =
-        let g = name-tagged l r x c co f p j h d t in
+    stamp-stays : (p j : ℕ) → j < S → p ≢ none l → names l r c p j ≡ true → Stamped l x′ c j p
+    stamp-stays p j h d t =
+        let g = name-stamped l r x c co f p j h d t in
         let e = same p d (name-named l r c p j h t) in
         record { stripe = rw e (g .stripe); kind = rw e (g .kind); member = rw e (g .member) }
 
-    main-stays : (j : ℕ) → j < S → mainNumber l c j (r j) ≢ none l → Tagged l x′ c j (mainNumber l c j (r j))
-    main-stays j h d = tag-stays (mainNumber l c j (r j)) j h d (main-names l r c (mainNumber l c j (r j)) j refl)
+    main-stays : (j : ℕ) → j < S → mainNumber l c j (r j) ≢ none l → Stamped l x′ c j (mainNumber l c j (r j))
+    main-stays j h d = stamp-stays (mainNumber l c j (r j)) j h d (main-names l r c (mainNumber l c j (r j)) j refl)
 
-    side-stays : (j : ℕ) → j < S → sideNumber l c j (r j) ≢ none l → Tagged l x′ c j (sideNumber l c j (r j))
-    side-stays j h d = tag-stays (sideNumber l c j (r j)) j h d (side-names l r c (sideNumber l c j (r j)) j refl)
+    side-stays : (j : ℕ) → j < S → sideNumber l c j (r j) ≢ none l → Stamped l x′ c j (sideNumber l c j (r j))
+    side-stays j h d = stamp-stays (sideNumber l c j (r j)) j h d (side-names l r c (sideNumber l c j (r j)) j refl)
 
   module _ (r : ℕ → Record) (x : ℕ → Page) (c : ℕ) (co : Collection) (f : ChipSound l r x c co) where
     -- a program of a clean page behind used ones
@@ -204,12 +204,12 @@ module _ (l : Layout) where
 
     -- a record store at rest
     module _ (j : ℕ) (r′ : Record)
-        (main : mainNumber l c j r′ ≢ none l → Tagged l x c j (mainNumber l c j r′))
-        (side : sideNumber l c j r′ ≢ none l → Tagged l x c j (sideNumber l c j r′)) where
-      record-main : (i : ℕ) → i < S → mainNumber l c i (at j r′ r i) ≢ none l → Tagged l x c i (mainNumber l c i (at j r′ r i))
+        (main : mainNumber l c j r′ ≢ none l → Stamped l x c j (mainNumber l c j r′))
+        (side : sideNumber l c j r′ ≢ none l → Stamped l x c j (sideNumber l c j r′)) where
+      record-main : (i : ℕ) → i < S → mainNumber l c i (at j r′ r i) ≢ none l → Stamped l x c i (mainNumber l c i (at j r′ r i))
       record-main i h = by-at j r′ r i (λ e n. rw (n, e) main) (λ d n. rw n (f .main i h))
 
-      record-side : (i : ℕ) → i < S → sideNumber l c i (at j r′ r i) ≢ none l → Tagged l x c i (sideNumber l c i (at j r′ r i))
+      record-side : (i : ℕ) → i < S → sideNumber l c i (at j r′ r i) ≢ none l → Stamped l x c i (sideNumber l c i (at j r′ r i))
       record-side i h = by-at j r′ r i (λ e n. rw (n, e) side) (λ d n. rw n (f .side i h))
 
       -- the chip after it

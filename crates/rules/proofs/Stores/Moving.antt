@@ -21,9 +21,9 @@ use Rattle.rules.specs.Blocks.{namedIn, unnamedIn}
 use Rattle.rules.specs.Sound.{twin, twinIn, collecting}
 use Rattle.rules.specs.Open.{moved, repointed, due}
 use Rattle.rules.specs.Gather.{bytesAt}
-use Rattle.rules.proofs.Soundness.Statements.{RecordSound, RecordsSound, Tagged, IsTwin, OneTwin, ChipSound}
+use Rattle.rules.proofs.Soundness.Statements.{RecordSound, RecordsSound, Stamped, IsTwin, OneTwin, ChipSound}
 use Rattle.rules.proofs.Stores.Kept.{Copies, Same, same-number}
-use Rattle.rules.proofs.Stores.Names.{by-name, main-names, side-names, not-names, named-by, name-named, unnamed-at, named-none, name-tagged, one-stripe}
+use Rattle.rules.proofs.Stores.Names.{by-name, main-names, side-names, not-names, named-by, name-named, unnamed-at, named-none, name-stamped, one-stripe}
 use Rattle.rules.proofs.Stores.Twins.{twin-is, is-twin, due-is}
 use Rattle.rules.proofs.Stores.Repoint.{moved-here, moved-other, by-moved, repointed-bitmap, repointed-slot, repointed-main, repointed-side, repointed-other}
 use Rattle.rules.proofs.Stores.Repoint.{repointed-beyond, repointed-sound}
@@ -91,15 +91,15 @@ module _ (l : Layout) (r : ℕ → Record) (x : ℕ → Page) (co : Collection) 
   moved-away : p ≢ q
   moved-away e = blocks-apart (original-place .0) k (original-place .1) fits (sym (original-place .2) ∙ e)
 
-  -- the tag of the copy is that of the original
-  tags : IsTwin l r x c p q
-  tags = twin-is l r x c p q (due-parts .2)
+  -- the stamp of the copy is that of the original
+  stamps : IsTwin l r x c p q
+  stamps = twin-is l r x c p q (due-parts .2)
 
   owner : (i : ℕ) × (i < S) × (names l r c p i ≡ true)
   owner = named-by l r c p (due-parts .1)
 
   owner-is : owner .0 ≡ j
-  owner-is = sym (tags .stripe ∙ name-tagged l r x c co chip p (owner .0) (owner .1) original-page (owner .2) .stripe)
+  owner-is = sym (stamps .stripe ∙ name-stamped l r x c co chip p (owner .0) (owner .1) original-page (owner .2) .stripe)
 
   pub stripe-fits : j < S
   stripe-fits = rw (← owner-is) (owner .1)
@@ -109,7 +109,7 @@ module _ (l : Layout) (r : ℕ → Record) (x : ℕ → Page) (co : Collection) 
 
   -- the new record
   free : (i : ℕ) → i < S → (mainNumber l c i (r i) ≢ q) × (sideNumber l c i (r i) ≢ q)
-  free = unnamed-at l r c q (tags .free)
+  free = unnamed-at l r c q (stamps .free)
 
   pub new-sound : RecordSound l (repointed l c j p q (r j))
   new-sound =
@@ -184,20 +184,20 @@ module _ (l : Layout) (r : ℕ → Record) (x : ℕ → Page) (co : Collection) 
       some-cong S (names l new c a) (names l r c a)
       (λ i h. rw (new-main i h, new-side i h, test-stays (mainNumber l c i (r i)) a op oq, test-stays (sideNumber l c i (r i)) a op oq))
 
-  -- tags after the move
-  tagged-moved : (i n : ℕ) → Tagged l x c i n → Tagged l x c i (moved p q n)
-  tagged-moved i n t = by-moved p q n
+  -- stamps after the move
+  stamped-moved : (i n : ℕ) → Stamped l x c i n → Stamped l x c i (moved p q n)
+  stamped-moved i n t = by-moved p q n
       (λ e m. record {
-        stripe = rw (m, tags .stripe, ← e) (t .stripe);
-        kind = rw (m, tags .kind, ← e) (t .kind);
-        member = rw (m, tags .member, ← e) (t .member);
+        stripe = rw (m, stamps .stripe, ← e) (t .stripe);
+        kind = rw (m, stamps .kind, ← e) (t .kind);
+        member = rw (m, stamps .member, ← e) (t .member);
       })
       (λ _ m. rw m t)
 
-  tagged-after : (i n n′ : ℕ) → n′ ≡ moved p q n → (n ≢ none l → Tagged l x c i n) → n′ ≢ none l → Tagged l x c i n′
-  tagged-after i n n′ e t o =
+  stamped-after : (i n n′ : ℕ) → n′ ≡ moved p q n → (n ≢ none l → Stamped l x c i n) → n′ ≢ none l → Stamped l x c i n′
+  stamped-after i n n′ e t o =
       let page : n ≢ none l = λ z. o (e ∙ moved-other p q n (λ h. original-page (sym h ∙ z)) ∙ z) in
-      rw e (tagged-moved i n (t page))
+      rw e (stamped-moved i n (t page))
 
   -- the pairs of original and copy after the move
   from-victim : (m : ℕ) → m < K → pageIn l d m ≢ p
@@ -225,8 +225,8 @@ module _ (l : Layout) (r : ℕ → Record) (x : ℕ → Page) (co : Collection) 
   -- the chip of the collection, and the others
   pub new-chip : ChipSound l new x c co
   new-chip = record {
-    main = λ i h. tagged-after i (mainNumber l c i (r i)) (mainNumber l c i (new i)) (new-main i h) (chip .main i h);
-    side = λ i h. tagged-after i (sideNumber l c i (r i)) (sideNumber l c i (new i)) (new-side i h) (chip .side i h);
+    main = λ i h. stamped-after i (mainNumber l c i (r i)) (mainNumber l c i (new i)) (new-main i h) (chip .main i h);
+    side = λ i h. stamped-after i (sideNumber l c i (r i)) (sideNumber l c i (new i)) (new-side i h) (chip .side i h);
     order = chip .order;
     spare = λ t. both (collecting co c) (rw (busy, eq-eqb c c refl)) t;
     phase-1 = λ e. absurd (omega (arith, busy, e));
@@ -263,7 +263,7 @@ module _ (l : Layout) (r : ℕ → Record) (x : ℕ → Page) (co : Collection) 
 
   destination-loses : Loses K (unnamedIn l r c d) (unnamedIn l new c d) k
   destination-loses = record {
-    had = rw (tags .free);
+    had = rw (stamps .free);
     lost = rw new-to;
     other = λ i h o. rw (new-name (pageIn l d i) (from-victim i h) (λ e. o (same-place l d i d k h fits e .1)));
   }

@@ -16,9 +16,9 @@ use Rattle.layout.specs.Collection.{Collection}
 use Rattle.layout.proofs.Limits.{Within}
 use Rattle.layout.proofs.Rotations.{member-chip-other, member-of-chip, chip-of-member, member-on-fits}
 use Rattle.layout.proofs.Pages.{page-in-fits, page-number}
-use Rattle.rules.specs.Names.{mainNumber, sideNumber, kindOn, memberTag, names, named}
+use Rattle.rules.specs.Names.{mainNumber, sideNumber, kindOn, memberByte, names, named}
 use Rattle.rules.specs.Blocks.{cleanIn, cleanBlock}
-use Rattle.rules.proofs.Soundness.Statements.{RecordSound, Tagged, ChipSound, sound-member}
+use Rattle.rules.proofs.Soundness.Statements.{RecordSound, Stamped, ChipSound, sound-member}
 use Rattle.rules.proofs.Data.Contents.{bit-slot}
 
 module _ (l : Layout) where
@@ -45,17 +45,17 @@ module _ (l : Layout) where
   unfolding kindOn
   kind-member j m = rw (ne-eqb (memberChip l j m) (parityChip l j) (member-chip-other l j m))
 
-  pub tag-member : (j m : ℕ) → memberTag l (memberChip l j m) j ≡ m
-  unfolding memberTag
-  tag-member j m = rw (ne-eqb (memberChip l j m) (parityChip l j) (member-chip-other l j m)) (member-of-chip l j m)
+  pub stamp-member : (j m : ℕ) → memberByte l (memberChip l j m) j ≡ m
+  unfolding memberByte
+  stamp-member j m = rw (ne-eqb (memberChip l j m) (parityChip l j) (member-chip-other l j m)) (member-of-chip l j m)
 
   pub kind-parity : (j : ℕ) → kindOn l (parityChip l j) j ≡ parityKind
   unfolding kindOn
   kind-parity j = rw (eq-eqb (parityChip l j) (parityChip l j) refl)
 
-  pub tag-parity : (j : ℕ) → memberTag l (parityChip l j) j ≡ 0
-  unfolding memberTag
-  tag-parity j = rw (eq-eqb (parityChip l j) (parityChip l j) refl)
+  pub stamp-parity : (j : ℕ) → memberByte l (parityChip l j) j ≡ 0
+  unfolding memberByte
+  stamp-parity j = rw (eq-eqb (parityChip l j) (parityChip l j) refl)
 
   -- a chip is the parity's or a member's
   pub by-chip {ℓ} : {P : Type ℓ} (c j : ℕ) → c < N + 1 → (c ≡ parityChip l j → P) → ((m : ℕ) → m < N → c ≡ memberChip l j m → P) → P
@@ -114,28 +114,28 @@ module _ (l : Layout) where
 
   -- what a sound chip says of a named page
   module _ (r : ℕ → Record) (x : ℕ → Page) (c : ℕ) (co : Collection) (f : ChipSound l r x c co) where
-    tagged-as : (p q j : ℕ) → q ≡ p → p ≢ none l → (q ≢ none l → Tagged l x c j q) → Tagged l x c j p
-    tagged-as p q j e d = rw e (λ g. g d)
+    stamped-as : (p q j : ℕ) → q ≡ p → p ≢ none l → (q ≢ none l → Stamped l x c j q) → Stamped l x c j p
+    stamped-as p q j e d = rw e (λ g. g d)
 
-    -- it has the tag of its stripe, so one stripe names it, and it is not clean
-    pub name-tagged : (p j : ℕ) → j < S → p ≢ none l → names l r c p j ≡ true → Tagged l x c j p
-    name-tagged p j h d t =
+    -- it has the stamp of its stripe, so one stripe names it, and it is not clean
+    pub name-stamped : (p j : ℕ) → j < S → p ≢ none l → names l r c p j ≡ true → Stamped l x c j p
+    name-stamped p j h d t =
         by-name r c p j t
-        (λ e. tagged-as p (mainNumber l c j (r j)) j e d (f .main j h))
-        (λ e. tagged-as p (sideNumber l c j (r j)) j e d (f .side j h))
+        (λ e. stamped-as p (mainNumber l c j (r j)) j e d (f .main j h))
+        (λ e. stamped-as p (sideNumber l c j (r j)) j e d (f .side j h))
 
     pub one-stripe : (p i j : ℕ) → i < S → j < S → p ≢ none l → names l r c p i ≡ true → names l r c p j ≡ true → i ≡ j
-    one-stripe p i j h h′ d t t′ = sym (name-tagged p i h d t .stripe) ∙ name-tagged p j h′ d t′ .stripe
+    one-stripe p i j h h′ d t t′ = sym (name-stamped p i h d t .stripe) ∙ name-stamped p j h′ d t′ .stripe
 
-    tagged-used : (p j : ℕ) → Tagged l x c j p → clean (x p) ≡ false
+    stamped-used : (p j : ℕ) → Stamped l x c j p → clean (x p) ≡ false
     unfolding kindOn
-    tagged-used p j g =
+    stamped-used p j g =
         by-test (eqb c (parityChip l j)) (λ t. rw (g .kind, t)) (λ t. rw (g .kind, t))
 
     pub named-used : (p : ℕ) → p ≢ none l → named l r c p ≡ true → clean (x p) ≡ false
     named-used p d t =
         let (j, h, e) = named-by r c p t in
-        tagged-used p j (name-tagged p j h d e)
+        stamped-used p j (name-stamped p j h d e)
 
     pub clean-unnamed : (p : ℕ) → p ≢ none l → clean (x p) ≡ true → named l r c p ≡ false
     clean-unnamed p d t = by-test (named l r c p) (λ e. both (clean (x p)) t (named-used p d e)) (λ e. e)

@@ -24,7 +24,7 @@ use Rattle.stores.proofs.View.{collection-stored, records-stay, length-slotted,
 use Rattle.rules.specs.Names.{mainNumber, sideNumber, names, named}
 use Rattle.rules.specs.Blocks.{cleanBlock}
 use Rattle.rules.specs.Sound.{collecting}
-use Rattle.rules.proofs.Soundness.Statements.{Usable, RecordSound, CollectionSound, RecordsSound, Tagged, OneTwin, ChipSound, Sound, sound-chip}
+use Rattle.rules.proofs.Soundness.Statements.{Usable, RecordSound, CollectionSound, RecordsSound, Stamped, OneTwin, ChipSound, Sound, sound-chip}
 use Rattle.rules.proofs.Stores.Names.{main-names, side-names, name-named}
 use Rattle.rules.proofs.Stores.Chips.{record-fits, collection-fits, records-keep, collection-records-keep, program-same, program-keeps, erase-same, erase-keeps}
 use Rattle.rules.proofs.Stores.Chips.{Fillable, CleanBut, record-keeps, collection-keeps}
@@ -196,8 +196,8 @@ module _ (l : Layout) where
     pub sound-stripe : (j : ℕ) (r′ : Record) → j < S → RecordSound l r′ → SixMembers l r′
         → co .phase ≡ 0
         → (r′ .slot ≢ noSlot → (i : ℕ) → i < S → i ≢ j → r i .slot ≢ r′ .slot) → countBelow S (slotted (at j r′ r)) ≤ M
-        → ((c : ℕ) → c < N + 1 → mainNumber l c j r′ ≢ none l → Tagged l (pageAt l (s .chips) c) c j (mainNumber l c j r′))
-        → ((c : ℕ) → c < N + 1 → sideNumber l c j r′ ≢ none l → Tagged l (pageAt l (s .chips) c) c j (sideNumber l c j r′))
+        → ((c : ℕ) → c < N + 1 → mainNumber l c j r′ ≢ none l → Stamped l (pageAt l (s .chips) c) c j (mainNumber l c j r′))
+        → ((c : ℕ) → c < N + 1 → sideNumber l c j r′ ≢ none l → Stamped l (pageAt l (s .chips) c) c j (sideNumber l c j r′))
         → Sound l (apply l (stripe j r′) s)
     unfolding apply
     sound-stripe j r′ below g beyond rest own few main side =

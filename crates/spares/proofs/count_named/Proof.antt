@@ -15,7 +15,7 @@ use Rattle.layout.specs.Layout.{layoutOf}
 use Rattle.layout.specs.Record.{recordAt}
 use Rattle.layout.specs.Images.{recordsLength}
 use Rattle.layout.proofs.Limits.{within}
-use Rattle.spares.specs.Scans.{hasNumber, stampedIn}
+use Rattle.spares.specs.Scans.{hasNumber, byStampIn}
 use Rattle.spares.proofs.Scanning.{start-low, place-low}
 use Rattle.spares.proofs.Fields.{field-test}
 use Rattle.spares.proofs.count_named.Statement.{statement}
@@ -102,13 +102,13 @@ returns c x chip tags low stamps found =
     let a = s .args in
     let l = layoutOf (a .g) in
     let all : c .before .loop .i ≡ a .g .k = omega arith in
-    let right : (i : ℕ) → i < a .g .k → has (a .records .now) (a .stripes .now) (a .fields .now) (a .b * a .g .k) i ≡ stampedIn l (recordAt l (a .records .now)) x chip (a .b) i =
+    let right : (i : ℕ) → i < a .g .k → has (a .records .now) (a .stripes .now) (a .fields .now) (a .b * a .g .k) i ≡ byStampIn l (recordAt l (a .records .now)) x chip (a .b) i =
     λ i h.
     let page = place-low (a .g) (s .pre .0 .limited) (a .b) i (s .pre .1) h in
     rw (found .is i h)
     (field-test (a .g) (a .records .now) x chip (a .b * a .g .k + i) (getD tags i 0) (getD (a .stripes .now) i 0) (s .pre .0 .limited) low (page .1) (stamps .tag i h) (stamps .stripe i h)) in
     rw (c .before .loop .inv .1, all)
-    (count-cong (a .g .k) (has (a .records .now) (a .stripes .now) (a .fields .now) (a .b * a .g .k)) (stampedIn l (recordAt l (a .records .now)) x chip (a .b)) right)
+    (count-cong (a .g .k) (has (a .records .now) (a .stripes .now) (a .fields .now) (a .b * a .g .k)) (byStampIn l (recordAt l (a .records .now)) x chip (a .b)) right)
 
 pub count-named-spec : {M : Type 1} → statement M
 count-named-spec =

@@ -17,7 +17,7 @@ use Rattle.rules.specs.Sound.{sparesSound}
 use Rattle.spares.specs.Scans.{phaseSound}
 use Rattle.names.proofs.Totals.{namesKept, names-le}
 use Rattle.spares.proofs.Scanning.{start-low, scans-at}
-use Rattle.spares.proofs.Judging.{Judged, judge-start, judge-more, judge-lost, judge-few, statements, verdict, tags-pass}
+use Rattle.spares.proofs.Judging.{Judged, judge-start, judge-more, judge-lost, judge-few, statements, verdict, stamps-pass}
 use Rattle.spares.proofs.spares_pass.Statement.{statement}
 use Rattle.spares.proofs.spares_pass.Tie as tie
 
@@ -136,7 +136,7 @@ returns-2 c =
 phase-passes-requires : tie.Need-phase-passes-requires Inv-loop μ-loop
 phase-passes-requires c κs =
     let s = c .before .before .before .before .before .before .before .before .before .before in
-    (tags-pass (s .pre .1) (s .pre .2) (s .pre .0) (c .before .before .before .before .loop .inv .1) (last (c .before .before .before)) (kept-is (c .before .before .before .before .before)) (passed (c .before .before) .0) (c .if4 .left), s .pre .1, s .pre .2)
+    (stamps-pass (s .pre .1) (s .pre .2) (s .pre .0) (c .before .before .before .before .loop .inv .1) (last (c .before .before .before)) (kept-is (c .before .before .before .before .before)) (passed (c .before .before) .0) (c .if4 .left), s .pre .1, s .pre .2)
 
 returns-3 : tie.Need-returns-3 Inv-loop μ-loop
 returns-3 c =

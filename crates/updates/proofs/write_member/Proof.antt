@@ -13,7 +13,7 @@ use Rattle.stores.proofs.Allowances.{ran-none, ran-then, ran-then-cut}
 use Rattle.rules.specs.Place.{placed}
 use Rattle.rules.specs.Write.{owedSteps, writeAt, writeMember}
 use Rattle.names.specs.Checked.{Settled}
-use Rattle.names.proofs.Statements.{tags-pass}
+use Rattle.names.proofs.Statements.{stamps-pass}
 use Rattle.checks.specs.declared.SlotScan.{SlotScan}
 use Rattle.space.proofs.Victims.{victim-wanted}
 use Rattle.collect.proofs.Rooms.{ordered}
@@ -89,7 +89,7 @@ victim-on-requires c κs =
     let o = c .before .before .before .before .before .before .before .before in
     let low = chip (test o) .member-chip .ensures .1 in
     let h = settled o (c .before .before .if2 .left) .checked in
-    (ordered h low, tags-pass _ _ _ h _ low)
+    (ordered h low, stamps-pass _ _ _ h _ low)
 
 place-member-requires-2 : tie.Need-place-member-requires-2
 place-member-requires-2 c κs =

@@ -7,8 +7,8 @@ use Rattle.units.proofs.Tests.{one-fails, none-fails}
 use Rattle.layout.specs.Layout.{layoutOf}
 use Rattle.layout.specs.Record.{recordAt}
 use Rattle.names.proofs.Readings.{stamp-beyond, stamp-test}
-use Rattle.names.proofs.is_stamped.Statement.{statement}
-use Rattle.names.proofs.is_stamped.Tie as tie
+use Rattle.names.proofs.named_by_stamp.Statement.{statement}
+use Rattle.names.proofs.named_by_stamp.Tie as tie
 
 returns : tie.Need-returns
 returns c x e =
@@ -33,8 +33,8 @@ returns-3 c x e =
     let l = layoutOf (a .g) in
     let q = c .before .before .before .before .before .before .before .stripe-pages .result in
     let is = stamp-test l (recordAt l (a .records .now)) x (a .c) (a .p) (a .t) e q (c .before .before .before .before .before .before .before .before .if1 .left) (c .before .before .before .before .before .before .before .stripe-pages .ensures) in
-    let tags = none-fails (eqb (a .t .kind) (q .kind)) (eqb (a .t .member) (q .member)) (c .before .before .if2 .left) in
-    rw (tags .0, tags .1, eq-eqb (q .main) (a .p) (c .if3 .taken)) at is
+    let stamps = none-fails (eqb (a .t .kind) (q .kind)) (eqb (a .t .member) (q .member)) (c .before .before .if2 .left) in
+    rw (stamps .0, stamps .1, eq-eqb (q .main) (a .p) (c .if3 .taken)) at is
 
 returns-4 : tie.Need-returns-4
 returns-4 c x e =
@@ -42,8 +42,8 @@ returns-4 c x e =
     let l = layoutOf (a .g) in
     let q = c .before .before .before .before .before .before .before .before .stripe-pages .result in
     let is = stamp-test l (recordAt l (a .records .now)) x (a .c) (a .p) (a .t) e q (c .before .before .before .before .before .before .before .before .before .if1 .left) (c .before .before .before .before .before .before .before .before .stripe-pages .ensures) in
-    let tags = none-fails (eqb (a .t .kind) (q .kind)) (eqb (a .t .member) (q .member)) (c .before .before .before .if2 .left) in
-    rw (tags .0, tags .1, ne-eqb (q .main) (a .p) (c .before .if3 .left)) at is
+    let stamps = none-fails (eqb (a .t .kind) (q .kind)) (eqb (a .t .member) (q .member)) (c .before .before .before .if2 .left) in
+    rw (stamps .0, stamps .1, ne-eqb (q .main) (a .p) (c .before .if3 .left)) at is
 
-pub is-stamped-spec : {M : Type 1} → statement M
-is-stamped-spec = tie.close (tie.spec returns stripe-pages-requires returns-2 returns-3 returns-4)
+pub named-by-stamp-spec : {M : Type 1} → statement M
+named-by-stamp-spec = tie.close (tie.spec returns stripe-pages-requires returns-2 returns-3 returns-4)
