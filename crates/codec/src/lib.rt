@@ -156,14 +156,6 @@ pub fn record_at(records: &[u8], g: Geometry, j: usize) -> StripeRecord
     }
 }
 
-// The bitmap of stripe j.
-pub fn bitmap_at(records: &[u8], g: Geometry, j: usize) -> usize
-    requires { ⌜ RecordsFit g (now records) × (j < g .s) ⌝ }
-    ensures { λ r. ⌜ (r ≡ recordAt (layoutOf g) (now (records .entry)) j .bitmap) × (r < 256) ⌝ }
-{
-    byte(records, j * 32 + 26)
-}
-
 // The slot of stripe j.
 pub fn slot_at(records: &[u8], g: Geometry, j: usize) -> usize
     requires { ⌜ RecordsFit g (now records) × (j < g .s) ⌝ }
