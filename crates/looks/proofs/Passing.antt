@@ -62,7 +62,7 @@ look-check l s lost Passed e = ap (λ (o : Look). o .check) e
 look-check l s lost (Failed r) e = ap (λ (o : Look). o .check) e
 
 -- a look that ends in a refusal
-pub look-refused : (l : Layout) (s : Images) (lost : ℕ) {look : Look} {r : Refusal} {k : Check} → look ≡ nothing r → Failed r ≡ k → look ≡ lookOf l s lost k
+pub look-refused : (l : Layout) (s : Images) (lost : ℕ) {look : Look} {r : Refusal} {k : Check} → look ≡ nothing (l .K) r → Failed r ≡ k → look ≡ lookOf l s lost k
 look-refused l s lost e f = rw (sym f) e
 
 -- one that finds what there is

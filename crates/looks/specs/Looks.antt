@@ -1,5 +1,5 @@
 -- What the look at the images brings.
-use mathlib.Core.List.{List}
+use mathlib.Core.Bool.{true, false}
 use lib.ListN.{replicate}
 use Prim.Native.Nat.{ℕ}
 use Rattle.units.specs.declared.Found.the-variants.{Nothing}
@@ -11,7 +11,8 @@ use Rattle.rules.specs.declared.Refusal.{Refusal}
 use Rattle.rules.specs.declared.Check.{Check}
 use Rattle.rules.specs.declared.Check.the-variants.{Passed, Failed}
 use Rattle.checks.specs.Slots.{slotScan}
-use Rattle.spares.specs.Scans.{unscanned, chipScans}
+use Rattle.spares.specs.declared.ChipScan.{ChipScan}
+use Rattle.spares.specs.Scans.{chipScans}
 use Rattle.looks.specs.declared.Look.{Look}
 
 -- rows below others count where those above have passed
@@ -19,12 +20,16 @@ abbrev pub below : Check → Check → Check
 below Passed rest = rest
 below (Failed r) rest = Failed r
 
--- where the rows come to a refusal, nothing was found
-abbrev pub nothing : Refusal → Look
-nothing r =
+-- the scan of no block: K named pages stand for no victim
+abbrev pub noBlock : ℕ → ChipScan
+noBlock k = record { ordered = true; clean = false; named = 0; victim = 0; fewest = k }
+
+-- where the rows come to a refusal, nothing was looked at
+abbrev pub nothing : ℕ → Refusal → Look
+nothing k r =
     record {
       check = Failed r;
-      chips = replicate 7 unscanned;
+      chips = replicate 7 (noBlock k);
       slots = record { slotted = 0; cheapest = Nothing; free = Nothing };
     }
 
@@ -36,4 +41,4 @@ lookOf l s lost Passed =
       chips = chipScans l (recordAt l (s .records)) (pageAt l (s .chips)) lost (l .B);
       slots = slotScan l (recordAt l (s .records));
     }
-lookOf l s lost (Failed r) = nothing r
+lookOf l s lost (Failed r) = nothing (l .K) r

@@ -44,15 +44,15 @@ pub fn buffers_check(g: Geometry, chips: &[u8], records: &[u8], slots: &[u8]) ->
 }
 
 // A look that ends in a refusal.
-fn refused(r: Refusal) -> Look
-    ensures { λ o. ⌜ o ≡ nothing r ⌝ }
+fn refused(g: Geometry, r: Refusal) -> Look
+    ensures { λ o. ⌜ o ≡ nothing (g .k) r ⌝ }
 {
     let none = ChipScan {
-        ordered: false,
+        ordered: true,
         clean: false,
         named: 0,
         victim: 0,
-        fewest: 0,
+        fewest: g.k as usize,
     };
     let unseen = SlotScan {
         slotted: 0,
@@ -73,20 +73,20 @@ pub fn images_look(g: Geometry, chips: &[u8], records: &[u8], slots: &[u8], lost
 {
     let first = buffers_check(g, chips, records, slots);
     if let Check::Failed(r) = first {
-        return refused(r);
+        return refused(g, r);
     }
     let n = g.n as usize;
     if !((lost == 255) | (lost <= n)) {
-        return refused(Refusal::LostChip);
+        return refused(g, Refusal::LostChip);
     }
     let scan = scan_records(g, records);
     if !scan.sound {
-        return refused(Refusal::Records);
+        return refused(g, Refusal::Records);
     }
     let co = collection_at(records, g);
     let survey = scan_spares(chips, records, g, co, scan.names, lost);
     if !survey.sound {
-        return refused(Refusal::Spares);
+        return refused(g, Refusal::Spares);
     }
     let scans = survey.chips;
     let seen = scan.slots;
@@ -105,11 +105,11 @@ pub fn settled_look(g: Geometry, chips: &[u8], records: &[u8], slots: &[u8], los
     let look = images_look(g, chips, records, slots, lost);
     let first = look.check;
     if let Check::Failed(r) = first {
-        return refused(r);
+        return refused(g, r);
     }
     let co = collection_at(records, g);
     if co.phase != 0 {
-        return refused(Refusal::Collection);
+        return refused(g, Refusal::Collection);
     }
     look
 }

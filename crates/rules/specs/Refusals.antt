@@ -43,6 +43,10 @@ abbrev pub checked : List Row → Check
 checked [] = Passed
 checked ((test, r) ∷ rows) = unless test r (checked rows)
 
+-- row 9: "a chip is lost"
+abbrev pub chipSetRow : ℕ → Row
+chipSetRow lost = (eqb lost noChip, ChipSet)
+
 module _ (l : Layout) where
   open Layout l using (N, W, S)
 
@@ -83,10 +87,6 @@ module _ (l : Layout) where
   -- rows 7 and 8: "page .. too high", "not W bytes"
   abbrev pub pageRows : ℕ → ℕ → List Row
   pageRows page len = (ltb page (N * S), Request) ∷ (eqb len W, Data) ∷ []
-
-  -- row 9: "a chip is lost"
-  abbrev pub chipSetRow : ℕ → Row
-  chipSetRow lost = (eqb lost noChip, ChipSet)
 
   -- read
   unfoldable pub readRows : Images → ℕ → ℕ → List ℕ → List Row

@@ -24,7 +24,7 @@ use Rattle.stores.specs.Steps.{Step, noCounts}
 use Rattle.stores.specs.Allowance.{started, Sane, Ran}
 use Rattle.stores.proofs.Allowances.{ran-none}
 use Rattle.rules.specs.declared.Refusal.{Refusal}
-use Rattle.rules.specs.declared.Refusal.the-variants.{Request, Data, ChipSet, Work}
+use Rattle.rules.specs.declared.Refusal.the-variants.{Request, Work}
 use Rattle.rules.specs.declared.Check.{Check}
 use Rattle.rules.specs.declared.Check.the-variants.{Passed, Failed}
 use Rattle.rules.specs.declared.Answer.the-variants.{Refused}
@@ -127,7 +127,7 @@ ready g s lost seen e none-lost = record { store = store-ready g s lost e none-l
 
 -- the rows of commit and collect below rows 1 to 6, up to row 9
 abbrev pub freeRows : Bool → ℕ → List Row
-freeRows fits lost = (fits, Request) ∷ (eqb lost noChip, ChipSet) ∷ []
+freeRows fits lost = (fits, Request) ∷ chipSetRow lost ∷ []
 
 module _ (g : Geometry) (s : Images) (lost : ℕ) where
   abbrev l : Layout
@@ -170,18 +170,18 @@ module _ (g : Geometry) (s : Images) (lost : ℕ) where
 
   module _ (page : ℕ) (xs : List ℕ) where
     pub write-told : {look : Look} {k more : Check} → look ≡ lookOf l s lost (checked (settledRows l s lost))
-        → k ≡ below (look .check) (checked (pageRows l page (length xs))) → more ≡ below k (checked (chipSetRow l lost ∷ [])) → more ≡ checked (writeRows l s lost page xs)
+        → k ≡ below (look .check) (checked (pageRows l page (length xs))) → more ≡ below k (checked (chipSetRow lost ∷ [])) → more ≡ checked (writeRows l s lost page xs)
     unfolding writeRows
     write-told seen e f =
         f ∙ rw (rows-told l s lost (settledRows l s lost) (pageRows l page (length xs)) seen e)
-        (sym (rows-below (settledRows l s lost ++ pageRows l page (length xs)) (chipSetRow l lost ∷ [])))
+        (sym (rows-below (settledRows l s lost ++ pageRows l page (length xs)) (chipSetRow lost ∷ [])))
 
     pub write-ready : {look : Look} → look ≡ lookOf l s lost (checked (settledRows l s lost)) → checked (writeRows l s lost page xs) ≡ Passed
         → Ready g s look × (page / g .n < g .s) × (page % g .n < g .n) × (length xs ≡ g .w)
     unfolding writeRows
     write-ready seen e =
         let (none-lost, o) = write-accepted l s lost page xs e in
-        let above = both-passed (settledRows l s lost ++ pageRows l page (length xs)) (chipSetRow l lost ∷ []) e .0 in
+        let above = both-passed (settledRows l s lost ++ pageRows l page (length xs)) (chipSetRow lost ∷ []) e .0 in
         let top = both-passed (settledRows l s lost) (pageRows l page (length xs)) above .0 in
         (ready g s lost seen top none-lost, stripe-fits l (o .settled .within) page (o .page), member-fits l (o .settled .within) page, o .whole)
 

@@ -24,13 +24,10 @@ use units::Found;
 use updates::commit_stripe;
 use updates::write_member;
 ghost use mathlib.Core.Path.{_≡_};
-ghost use mathlib.Core.Bool.{Bool};
 ghost use mathlib.Core.List.{[], _∷_};
-ghost use Prim.Native.Nat.{_*_};
-ghost use lib.Dec.{ltb, eqb};
 ghost use Rattle.layout.specs.Layout.{layoutOf};
-ghost use Rattle.rules.specs.declared.Refusal.the-variants.{Request, Data, ChipSet};
-ghost use Rattle.rules.specs.Refusals.{checked};
+ghost use Rattle.rules.specs.declared.Refusal.the-variants.{Request};
+ghost use Rattle.rules.specs.Refusals.{checked, pageRows, chipSetRow};
 ghost use Rattle.rules.specs.Calls.{Outcome, ReadOutcome, formatCall, openCall, writeCall, commitCall, collectCall, readCall};
 ghost use Rattle.stores.specs.Allowance.{images};
 ghost use Rattle.looks.specs.Looks.{below};
@@ -80,7 +77,7 @@ pub fn open(
 
 // Rows 7 and 8 of read and write, below the others.
 fn page_check(first: Check, g: Geometry, page: u64, len: usize) -> Check
-    ensures { λ r. ⌜ r ≡ below first (checked ((ltb page (g .n * g .s), Request) ∷ (eqb len (g .w), Data) ∷ [])) ⌝ }
+    ensures { λ r. ⌜ r ≡ below first (checked (pageRows (layoutOf g) page len)) ⌝ }
 {
     let fits = also(first, page_fits(g, page), Refusal::Request);
     also(fits, len == g.w as usize, Refusal::Data)
@@ -88,7 +85,7 @@ fn page_check(first: Check, g: Geometry, page: u64, len: usize) -> Check
 
 // Rows 7 and 9 of commit and collect.
 fn free_check(first: Check, fits: bool, lost: u64) -> Check
-    ensures { λ r. ⌜ r ≡ below first (checked ((fits, Request) ∷ (eqb lost 255, ChipSet) ∷ [])) ⌝ }
+    ensures { λ r. ⌜ r ≡ below first (checked ((fits, Request) ∷ chipSetRow lost ∷ [])) ⌝ }
 {
     also(
         also(first, fits, Refusal::Request),

@@ -45,10 +45,3 @@ module _ {f : ℕ → Bool} {m : ℕ → ℕ} {bound n best least : ℕ} (h : Be
         some = λ less. let (e, is) = h .some less in (rw (least-skips n f m t) e, is);
         nothing = λ e. rw (least-skips n f m t) (h .nothing e);
       }))
-
-  -- at the end
-  pub best-found : least < bound → leastBelow n f m ≡ At best
-  best-found less = h .some less .0
-
-  pub best-nothing : bound ≤ least → leastBelow n f m ≡ Nothing
-  best-nothing more = h .nothing (omega (arith, h .high))

@@ -140,7 +140,7 @@ module _ (l : Layout) where
       let above : checked (settledRows l s noChip ++ pageRows l page (length xs)) ≡ Passed =
       below-passed (settledRows l s noChip) (pageRows l page (length xs)) (settled-pass s (h .settled))
       ∙ rw (lt-ltb page (N * S) (h .page), eq-eqb (length xs) W (h .whole)) in
-      below-passed (settledRows l s noChip ++ pageRows l page (length xs)) (chipSetRow l noChip ∷ []) above
+      below-passed (settledRows l s noChip ++ pageRows l page (length xs)) (chipSetRow noChip ∷ []) above
 
   -- commit
   pub commit-accepted : (s : Images) (lost j : ℕ) → checked (commitRows l s lost j) ≡ Passed → (lost ≡ noChip) × CommitAccepted s j
