@@ -1,5 +1,5 @@
 -- What the rows about the images come to, test by test, and what a call may rely on once they have passed.
-use Prim.Native.Nat.{ℕ, _*_, _/_, _<_}
+use Prim.Native.Nat.{ℕ, _*_, _/_, _%_, _<_}
 use native.Mathlib.Nat.{mul-comm, le-div-iff-mul-le, div-lt-iff-lt-mul}
 use native.Mathlib.Omega.{arith}
 use mathlib.Core.Path.{_≡_, refl, sym, ap, _∙_}
@@ -14,12 +14,13 @@ use Rattle.layout.specs.Page.{pageAt}
 use Rattle.layout.specs.Record.{recordAt}
 use Rattle.layout.specs.Images.{Images, lengths}
 use Rattle.layout.proofs.Limits.{Within, limited}
+use Rattle.layout.proofs.Rotations.{stripe-fits, member-fits}
 use Rattle.rules.specs.declared.Refusal.{Refusal}
 use Rattle.rules.specs.declared.Refusal.the-variants.{LostChip, Records, Spares, Collection}
 use Rattle.rules.specs.declared.Check.{Check}
 use Rattle.rules.specs.declared.Check.the-variants.{Passed, Failed}
 use Rattle.rules.specs.Sound.{recordSound}
-use Rattle.rules.specs.Refusals.{Row, unless, checked, lostNamed, recordsCheck, sparesCheck, atRest, buffersRows, imagesRows, settledRows}
+use Rattle.rules.specs.Refusals.{Row, pageRow, unless, checked, lostNamed, recordsCheck, sparesCheck, atRest, buffersRows, imagesRows, settledRows}
 use Rattle.rules.proofs.Soundness.Table.{by-check, not-passed, rows-passed, below-passed, below-failed, both-passed}
 use Rattle.rules.proofs.Soundness.Accepted.{buffers-accepted, images-accepted, settled-accepted}
 use Rattle.rules.proofs.Soundness.Checks.{lengths-are, records-check-pass, spares-check-pass}
@@ -60,6 +61,11 @@ one-more (Failed n) test r rest = refl
 pub look-check : (l : Layout) (s : Images) (lost : ℕ) (k : Check) {look : Look} → look ≡ lookOf l s lost k → look .check ≡ k
 look-check l s lost Passed e = ap (λ (o : Look). o .check) e
 look-check l s lost (Failed r) e = ap (λ (o : Look). o .check) e
+
+-- rows below those of a look, as the code goes on from it
+pub rows-told : (l : Layout) (s : Images) (lost : ℕ) (above rest : List Row) {look : Look} {k : Check} → look ≡ lookOf l s lost (checked above)
+    → k ≡ below (look .check) (checked rest) → k ≡ checked (above ++ rest)
+rows-told l s lost above rest seen e = e ∙ rw (look-check l s lost (checked above) seen) (sym (rows-below above rest))
 
 -- a look that ends in a refusal
 pub look-refused : (l : Layout) (s : Images) (lost : ℕ) {look : Look} {r : Refusal} {k : Check} → look ≡ nothing (l .K) r → Failed r ≡ k → look ≡ lookOf l s lost k
@@ -197,3 +203,31 @@ pub page-test : (n s page : ℕ) → 0 < n → ltb (page / n) s ≡ ltb page (n 
 page-test n s page some = by-test (ltb (page / n) s)
     (λ e. e ∙ sym (lt-ltb page (n * s) (rw mul-comm (div-lt-iff-lt-mul some .0 (ltb-true (page / n) s e)))))
     (λ e. e ∙ sym (le-ltb page (n * s) (rw mul-comm (le-div-iff-mul-le some .0 (ltb-false (page / n) s e)))))
+
+-- rows 1 to 5 have passed, and there is such a page
+pub record PageReady (g : Geometry) (s : Images) (page : ℕ) : Type 0 where
+  pub fit : ImagesFit g s
+  pub stripe : page / g .n < g .s
+  pub member : page % g .n < g .n
+
+pub page-ready : (g : Geometry) (s : Images) (lost page : ℕ) (rest : List Row)
+    → checked (imagesRows (layoutOf g) s lost ++ (pageRow (layoutOf g) page ∷ rest)) ≡ Passed → PageReady g s page
+page-ready g s lost page rest e =
+    let l = layoutOf g in
+    let (above, more) = both-passed (imagesRows l s lost) (pageRow l page ∷ rest) e in
+    let fit = images-fit g s lost above in
+    record {
+      fit = fit;
+      stripe = stripe-fits l (fit .within-limits) page (ltb-true page (g .n * g .s) (rows-passed (pageRow l page ∷ rest) more .0));
+      member = member-fits l (fit .within-limits) page;
+    }
+
+-- a call that stores passes rows 1 to 6, and no chip is lost: what holds of the images, and what the look has found
+pub record Ready (g : Geometry) (s : Images) (look : Look) : Type 0 where
+  pub store : StoreReady g s
+  pub known : Victims g (s .chips) (s .records) (look .chips)
+  pub slots : look .slots ≡ slotScan (layoutOf g) (recordAt (layoutOf g) (s .records))
+
+pub ready : (g : Geometry) (s : Images) (lost : ℕ) {look : Look} → look ≡ lookOf (layoutOf g) s lost (checked (settledRows (layoutOf g) s lost))
+    → checked (settledRows (layoutOf g) s lost) ≡ Passed → lost ≡ noChip → Ready g s look
+ready g s lost seen e none-lost = record { store = store-ready g s lost e none-lost; known = victims g s lost e none-lost seen; slots = slots-seen (layoutOf g) s lost e seen }

@@ -12,7 +12,7 @@ use Rattle.rules.specs.declared.Answer.{Answer}
 use Rattle.rules.specs.declared.Answer.the-variants.{Done, Cut, Refused}
 use Rattle.rules.specs.declared.Reading.{Reading}
 use Rattle.rules.specs.declared.Reading.the-variants.{Done as ReadDone, Refused as ReadRefused}
-use Rattle.rules.specs.Refusals.{refusalNumber, checked, buffersRows, imagesRows, readRows, writeRows, commitRows, collectRows}
+use Rattle.rules.specs.Refusals.{Row, refusalNumber, checked, buffersRows, imagesRows, readRows, writeRows, commitRows, collectRows}
 use Rattle.rules.specs.Open.{openSteps}
 use Rattle.rules.specs.Collect.{collectSteps}
 use Rattle.rules.specs.Commit.{commitSteps}
@@ -144,10 +144,10 @@ verdict (Done n) = done
 verdict (Cut n) = cut
 verdict (Refused r) = refused
 
--- of a read
-abbrev pub readVerdict : Reading → Verdict
-readVerdict (ReadDone n) = done
-readVerdict (ReadRefused r) = refused
+-- of a query, which is never cut: what its rows come to
+abbrev pub queryVerdict : Check → Verdict
+queryVerdict Passed = done
+queryVerdict (Failed r) = refused
 
 -- what is seen of a call from outside: its verdict, and the images that it leaves to the next
 pub record Ended : Type 0 where
@@ -159,9 +159,9 @@ abbrev pub stored : Outcome → Ended
 stored o = record { verdict = verdict (o .answer); images = o .images }
 
 module _ (l : Layout) where
-  -- of a query
-  unfoldable pub answered : Query → Images → Verdict
-  answered (read-call lost page buffer) s = readVerdict (readCall l s lost page buffer .answer)
+  -- the rows of a query
+  unfoldable pub queryRows : Query → Images → List Row
+  queryRows (read-call lost page buffer) s = readRows l s lost page buffer
 
   -- The table of calls: what comes of each. A query leaves the images.
   unfoldable pub ended : Call → Images → Ended
@@ -169,4 +169,4 @@ module _ (l : Layout) where
   ended (write-call lost page xs a) s = stored (writeCall l s lost page xs a)
   ended (commit-call lost j a) s = stored (commitCall l s lost j a)
   ended (collect-call lost c a) s = stored (collectCall l s lost c a)
-  ended (query-call q) s = record { verdict = answered q s; images = s }
+  ended (query-call q) s = record { verdict = queryVerdict (checked (queryRows q s)); images = s }

@@ -84,9 +84,13 @@ module _ (l : Layout) where
   unfoldable pub settledRows : Images → ℕ → List Row
   settledRows s lost = imagesRows s lost ++ ((atRest s, Collection) ∷ [])
 
-  -- rows 7 and 8: "page .. too high", "not W bytes"
+  -- row 7 of a call with a page: "page .. too high"
+  abbrev pub pageRow : ℕ → Row
+  pageRow page = (ltb page (N * S), Request)
+
+  -- and row 8: "not W bytes"
   abbrev pub pageRows : ℕ → ℕ → List Row
-  pageRows page len = (ltb page (N * S), Request) ∷ (eqb len W, Data) ∷ []
+  pageRows page len = pageRow page ∷ (eqb len W, Data) ∷ []
 
   -- read
   unfoldable pub readRows : Images → ℕ → ℕ → List ℕ → List Row

@@ -41,31 +41,14 @@ use Rattle.rules.proofs.Soundness.Table.{rows-passed, below-passed, below-faile
 use Rattle.rules.proofs.Soundness.Accepted.{write-accepted}
 use Rattle.rules.proofs.Lists.Lengths.{format-length, finish-length, collect-length, commit-length, write-length}
 use Rattle.rules.proofs.Lists.EachCall.{open-lost}
-use Rattle.rules.proofs.Lists.Answers.{answerOf, ran-outcome}
+use Rattle.rules.proofs.Lists.Answers.{answerOf, call-refused, call-ran}
 use Rattle.codec.specs.Fit.{ChipsFit, RecordsFit, SlotsFit}
 use Rattle.names.specs.Checked.{Settled}
 use Rattle.checks.specs.Slots.{slotScan}
 use Rattle.space.specs.Victims.{Victims}
 use Rattle.looks.specs.declared.Look.{Look}
 use Rattle.looks.specs.Looks.{below, lookOf}
-use Rattle.looks.proofs.Passing.{rows-below, look-check, ImagesFit, images-fit, StoreReady, store-ready, victims, slots-seen}
-
--- rows below those of a look, as the code goes on from it
-pub rows-told : (l : Layout) (s : Images) (lost : ℕ) (above rest : List Row) {look : Look} {k : Check} → look ≡ lookOf l s lost (checked above)
-    → k ≡ below (look .check) (checked rest) → k ≡ checked (above ++ rest)
-rows-told l s lost above rest seen e = e ∙ rw (look-check l s lost (checked above) seen) (sym (rows-below above rest))
-
-module _ (l : Layout) (s : Images) (a : ℕ) (steps : Images → List Step) (rows : List Row) where
-  -- a call whose rows come to a refusal
-  pub call-refused : (r : Refusal) → checked rows ≡ Failed r
-      → _≡_ {A = Outcome} (record { answer = Refused r; images = s }) (outcome l (checked rows) noCounts a steps s)
-  call-refused r e = rw e
-
-  -- one whose rows pass, and whose list the code has run: no list is as long as the most that the code counts down from
-  pub call-ran : (xs : List Step) {p q : Progress} {t : Images} → checked rows ≡ Passed → steps s ≡ xs → length xs ≤ 2 ^ 59
-      → p ≡ started noCounts (min a (2 ^ 59)) → Ran l p xs q s t
-      → _≡_ {A = Outcome} (record { answer = answerOf q; images = t }) (outcome l (checked rows) noCounts a steps s)
-  call-ran xs {q = q} {t = t} e list short begun h = rw (e, list) (ran-outcome l noCounts a (2 ^ 59) xs q s t short (rw begun at h))
+use Rattle.looks.proofs.Passing.{rows-below, rows-told, PageReady, page-ready, Ready, ready}
 
 -- ---- format
 
@@ -77,53 +60,41 @@ format-short l w =
 module _ (l : Layout) (s : Images) (a : ℕ) where
   pub format-refused : (r : Refusal) → checked (buffersRows l s) ≡ Failed r → _≡_ {A = Outcome} (record { answer = Refused r; images = s }) (formatCall l s a)
   unfolding formatCall
-  format-refused r e = call-refused l s a (λ t. formatSteps l) (buffersRows l s) r e
+  format-refused r e = call-refused l noCounts s a (λ t. formatSteps l) (buffersRows l s) r e
 
   pub format-ran : {p q : Progress} {t : Images} → Within l → checked (buffersRows l s) ≡ Passed → p ≡ started noCounts (min a (2 ^ 59))
       → Ran l p (formatSteps l) q s t → _≡_ {A = Outcome} (record { answer = answerOf q; images = t }) (formatCall l s a)
   unfolding formatCall
-  format-ran w e begun h = call-ran l s a (λ t. formatSteps l) (buffersRows l s) (formatSteps l) e refl (format-short l w) begun h
+  format-ran w e begun h = call-ran l noCounts s a (λ t. formatSteps l) (buffersRows l s) (formatSteps l) e refl (format-short l w) begun h
 
 -- ---- open
 
 module _ (l : Layout) (s : Images) (lost a : ℕ) where
   pub open-refused : (r : Refusal) → checked (imagesRows l s lost) ≡ Failed r → _≡_ {A = Outcome} (record { answer = Refused r; images = s }) (openCall l s lost a)
   unfolding openCall
-  open-refused r e = call-refused l s a (openSteps l lost) (imagesRows l s lost) r e
+  open-refused r e = call-refused l noCounts s a (openSteps l lost) (imagesRows l s lost) r e
 
   -- with a chip lost there is no store
   pub open-nothing : {p : Progress} → checked (imagesRows l s lost) ≡ Passed → lost ≢ noChip → p ≡ started noCounts (min a (2 ^ 59)) → Sane p
       → _≡_ {A = Outcome} (record { answer = answerOf p; images = s }) (openCall l s lost a)
   unfolding openCall
-  open-nothing {p} e d begun sane = call-ran l s a (openSteps l lost) (imagesRows l s lost) [] e (open-lost l s lost d) (omega arith) begun (ran-none l p s sane)
+  open-nothing {p} e d begun sane = call-ran l noCounts s a (openSteps l lost) (imagesRows l s lost) [] e (open-lost l s lost d) (omega arith) begun (ran-none l p s sane)
 
   -- else it is the end of the collection
   pub open-finished : {p q : Progress} {t : Images} → Within l → checked (imagesRows l s lost) ≡ Passed → lost ≡ noChip → p ≡ started noCounts (min a (2 ^ 59))
       → Ran l p (finishSteps l s) q s t → _≡_ {A = Outcome} (record { answer = answerOf q; images = t }) (openCall l s lost a)
   unfolding openCall openSteps
   open-finished w e none-lost begun h =
-      call-ran l s a (openSteps l lost) (imagesRows l s lost) (finishSteps l s) e (rw (eq-eqb lost noChip none-lost)) (omega (arith, finish-length l s, w .places-high)) begun h
+      call-ran l noCounts s a (openSteps l lost) (imagesRows l s lost) (finishSteps l s) e (rw (eq-eqb lost noChip none-lost)) (omega (arith, finish-length l s, w .places-high)) begun h
 
 -- a read that passes its rows
 pub record ReadReady (g : Geometry) (s : Images) (page : ℕ) (buffer : List ℕ) : Type 0 where
-  pub fit : ImagesFit g s
-  pub stripe : page / g .n < g .s
-  pub member : page % g .n < g .n
+  pub ready : PageReady g s page
   pub whole : length buffer ≡ g .w
 
 -- no list of these calls is as long as the most that the code counts down from
 short : (k n : ℕ) → k ≤ 4 * n + 13 → n ≤ 128 → k ≤ 2 ^ 59
 short k n h low = omega arith
-
--- one of them that passes its rows: what holds of the images, and what the look has found
-pub record Ready (g : Geometry) (s : Images) (look : Look) : Type 0 where
-  pub store : StoreReady g s
-  pub known : Victims g (s .chips) (s .records) (look .chips)
-  pub slots : look .slots ≡ slotScan (layoutOf g) (recordAt (layoutOf g) (s .records))
-
-pub ready : (g : Geometry) (s : Images) (lost : ℕ) {look : Look} → look ≡ lookOf (layoutOf g) s lost (checked (settledRows (layoutOf g) s lost))
-    → checked (settledRows (layoutOf g) s lost) ≡ Passed → lost ≡ noChip → Ready g s look
-ready g s lost seen e none-lost = record { store = store-ready g s lost e none-lost; known = victims g s lost e none-lost seen; slots = slots-seen (layoutOf g) s lost e seen }
 
 -- the rows of commit and collect below rows 1 to 6, up to row 9
 abbrev pub freeRows : Bool → ℕ → List Row
@@ -144,14 +115,10 @@ module _ (g : Geometry) (s : Images) (lost : ℕ) where
     pub read-ready : checked (readRows l s lost page buffer) ≡ Passed → ReadReady g s page buffer
     unfolding readRows
     read-ready e =
-        let (above, rest) = both-passed (imagesRows l s lost) (pageRows l page (length buffer)) e in
-        let h = rows-passed (pageRows l page (length buffer)) rest in
-        let fit = images-fit g s lost above in
+        let rest = both-passed (imagesRows l s lost) (pageRows l page (length buffer)) e .1 in
         record {
-          fit = fit;
-          stripe = stripe-fits l (fit .within-limits) page (ltb-true page (g .n * g .s) (h .0));
-          member = member-fits l (fit .within-limits) page;
-          whole = eqb-true (length buffer) (g .w) (h .1 .0);
+          ready = page-ready g s lost page _ e;
+          whole = eqb-true (length buffer) (g .w) (rows-passed (pageRows l page (length buffer)) rest .1 .0);
         }
 
     pub read-refused : (r : Refusal) → checked (readRows l s lost page buffer) ≡ Failed r
@@ -188,14 +155,14 @@ module _ (g : Geometry) (s : Images) (lost : ℕ) where
     pub write-refused : (a : ℕ) (r : Refusal) → checked (writeRows l s lost page xs) ≡ Failed r
         → _≡_ {A = Outcome} (record { answer = Refused r; images = s }) (writeCall l s lost page xs a)
     unfolding writeCall
-    write-refused a r e = call-refused l s a (writeSteps l page xs) (writeRows l s lost page xs) r e
+    write-refused a r e = call-refused l noCounts s a (writeSteps l page xs) (writeRows l s lost page xs) r e
 
     pub write-ran : (a : ℕ) {p q : Progress} {t : Images} → checked (writeRows l s lost page xs) ≡ Passed → p ≡ started noCounts (min a (2 ^ 59))
         → Ran l p (writeMember l (page / g .n) (page % g .n) xs s) q s t → _≡_ {A = Outcome} (record { answer = answerOf q; images = t }) (writeCall l s lost page xs a)
     unfolding writeCall writeSteps
     write-ran a e begun h =
         let w = write-accepted l s lost page xs e .1 .settled .within in
-        call-ran l s a (writeSteps l page xs) (writeRows l s lost page xs) (writeSteps l page xs s) e refl (short (length (writeSteps l page xs s)) (l .K) (write-length l page xs s) (w .places-high)) begun h
+        call-ran l noCounts s a (writeSteps l page xs) (writeRows l s lost page xs) (writeSteps l page xs s) e refl (short (length (writeSteps l page xs s)) (l .K) (write-length l page xs s) (w .places-high)) begun h
 
   module _ (fits : Bool) where
     pub free-told : {look : Look} {k : Check} → look ≡ lookOf l s lost (checked (settledRows l s lost))
@@ -214,7 +181,7 @@ module _ (g : Geometry) (s : Images) (lost : ℕ) where
         → _≡_ {A = Outcome} (record { answer = Refused r; images = s }) (commitCall l s lost j a)
     unfolding commitCall commitRows
     commit-refused r e =
-        call-refused l s a (commitSteps l j) (commitRows l s lost j) r
+        call-refused l noCounts s a (commitSteps l j) (commitRows l s lost j) r
         (below-failed (settledRows l s lost ++ freeRows (ltb j (g .s)) lost) ((hasSlot (recordAt l (s .records) j), Work) ∷ []) r e)
 
     -- what row 10 comes to
@@ -226,14 +193,14 @@ module _ (g : Geometry) (s : Images) (lost : ℕ) where
     pub commit-slotless : checked (settledRows l s lost ++ freeRows (ltb j (g .s)) lost) ≡ Passed → hasSlot (recordAt l (s .records) j) ≡ false
         → _≡_ {A = Outcome} (record { answer = Refused Work; images = s }) (commitCall l s lost j a)
     unfolding commitCall
-    commit-slotless e f = call-refused l s a (commitSteps l j) (commitRows l s lost j) Work (commit-last false e f)
+    commit-slotless e f = call-refused l noCounts s a (commitSteps l j) (commitRows l s lost j) Work (commit-last false e f)
 
     pub commit-ran : {p q : Progress} {t : Images} → Within l → checked (settledRows l s lost ++ freeRows (ltb j (g .s)) lost) ≡ Passed
         → hasSlot (recordAt l (s .records) j) ≡ true → p ≡ started noCounts (min a (2 ^ 59)) → Ran l p (commitSteps l j s) q s t
         → _≡_ {A = Outcome} (record { answer = answerOf q; images = t }) (commitCall l s lost j a)
     unfolding commitCall
     commit-ran w e f begun h =
-        call-ran l s a (commitSteps l j) (commitRows l s lost j) (commitSteps l j s) (commit-last true e f) refl
+        call-ran l noCounts s a (commitSteps l j) (commitRows l s lost j) (commitSteps l j s) (commit-last true e f) refl
         (short (length (commitSteps l j s)) (l .K) (omega (arith, commit-length l j s)) (w .places-high)) begun h
 
   module _ (c a : ℕ) where
@@ -244,7 +211,7 @@ module _ (g : Geometry) (s : Images) (lost : ℕ) where
         → _≡_ {A = Outcome} (record { answer = Refused r; images = s }) (collectCall l s lost c a)
     unfolding collectCall collectRows
     collect-refused r e =
-        call-refused l s a (collectSteps l c) (collectRows l s lost c) r
+        call-refused l noCounts s a (collectSteps l c) (collectRows l s lost c) r
         (below-failed (settledRows l s lost ++ freeRows (leb c (g .n)) lost) ((collectableOn l s c, Work) ∷ []) r e)
 
     -- what row 10 comes to
@@ -256,12 +223,12 @@ module _ (g : Geometry) (s : Images) (lost : ℕ) where
     pub collect-nothing : checked (settledRows l s lost ++ freeRows (leb c (g .n)) lost) ≡ Passed → victim ≡ Nothing
         → _≡_ {A = Outcome} (record { answer = Refused Work; images = s }) (collectCall l s lost c a)
     unfolding collectCall whenFound
-    collect-nothing e f = call-refused l s a (collectSteps l c) (collectRows l s lost c) Work (collect-last Nothing e f)
+    collect-nothing e f = call-refused l noCounts s a (collectSteps l c) (collectRows l s lost c) Work (collect-last Nothing e f)
 
     pub collect-ran : {p q : Progress} {t : Images} (v : ℕ) → Within l → checked (settledRows l s lost ++ freeRows (leb c (g .n)) lost) ≡ Passed
         → victim ≡ At v → p ≡ started noCounts (min a (2 ^ 59)) → Ran l p (collectSteps l c s) q s t
         → _≡_ {A = Outcome} (record { answer = answerOf q; images = t }) (collectCall l s lost c a)
     unfolding collectCall whenFound
     collect-ran v w e f begun h =
-        call-ran l s a (collectSteps l c) (collectRows l s lost c) (collectSteps l c s) (collect-last (At v) e f) refl
+        call-ran l noCounts s a (collectSteps l c) (collectRows l s lost c) (collectSteps l c s) (collect-last (At v) e f) refl
         (short (length (collectSteps l c s)) (l .K) (omega (arith, collect-length l c s)) (w .places-high)) begun h

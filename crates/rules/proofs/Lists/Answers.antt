@@ -1,5 +1,5 @@
 -- The answer of a call whose code has run its list.
-use Prim.Native.Nat.{ℕ, _≤_, min}
+use Prim.Native.Nat.{ℕ, _^_, _≤_, min}
 use native.Mathlib.Nat.{min-eq-left, min-eq-right, le-of-lt}
 use native.Mathlib.Omega.{arith}
 use mathlib.Core.Path.{_≡_}
@@ -16,8 +16,11 @@ use Rattle.stores.specs.declared.Progress.{Progress}
 use Rattle.stores.specs.Steps.{Step, made, isCut}
 use Rattle.stores.specs.Allowance.{started, after, applied, Ran}
 use Rattle.rules.specs.declared.Answer.{Answer}
-use Rattle.rules.specs.declared.Answer.the-variants.{Cut, Done}
-use Rattle.rules.specs.Calls.{Outcome, run}
+use Rattle.rules.specs.declared.Answer.the-variants.{Cut, Done, Refused}
+use Rattle.rules.specs.declared.Refusal.{Refusal}
+use Rattle.rules.specs.declared.Check.the-variants.{Passed, Failed}
+use Rattle.rules.specs.Refusals.{Row, checked}
+use Rattle.rules.specs.Calls.{Outcome, run, outcome}
 
 -- the answer of a call under way that has come to its end
 abbrev pub answerOf : Progress → Answer
@@ -37,3 +40,15 @@ pub ran-outcome : (l : Layout) (n : Counts) (a most : ℕ) (xs : List Step) (r :
     → _≡_ {A = Outcome} (record { answer = answerOf r; images = t }) (run l n a xs s)
 unfolding run after applied
 ran-outcome l n a most xs r s t short h = rw (h .progress, h .images, made-enough a most xs short, cut-enough a most xs short)
+
+module _ (l : Layout) (n : Counts) (s : Images) (a : ℕ) (steps : Images → List Step) (rows : List Row) where
+  -- a call whose rows come to a refusal
+  pub call-refused : (r : Refusal) → checked rows ≡ Failed r
+      → _≡_ {A = Outcome} (record { answer = Refused r; images = s }) (outcome l (checked rows) n a steps s)
+  call-refused r e = rw e
+
+  -- one whose rows pass, and whose list the code has run: no list is as long as the most that the code counts down from
+  pub call-ran : (xs : List Step) {p q : Progress} {t : Images} → checked rows ≡ Passed → steps s ≡ xs → length xs ≤ 2 ^ 59
+      → p ≡ started n (min a (2 ^ 59)) → Ran l p xs q s t
+      → _≡_ {A = Outcome} (record { answer = answerOf q; images = t }) (outcome l (checked rows) n a steps s)
+  call-ran xs {q = q} {t = t} e list short begun h = rw (e, list) (ran-outcome l n a (2 ^ 59) xs q s t short (rw begun at h))

@@ -27,15 +27,16 @@ returns : tie.Need-returns
 returns c = read-refused _ _ _ _ _ (c .before .check .given .0 .0) (sym (told (c .before .before .before)) ∙ c .before .check .given .1)
 
 div-j : tie.Need-div-j
-div-j c = omega (arith, ready (c .before) .fit .within-limits .members-low)
+div-j c = omega (arith, ready (c .before) .ready .fit .within-limits .members-low)
 
 rem-m : tie.Need-rem-m
-rem-m c = omega (arith, ready (c .before .before) .fit .within-limits .members-low)
+rem-m c = omega (arith, ready (c .before .before) .ready .fit .within-limits .members-low)
 
 fetch-requires : tie.Need-fetch-requires
 fetch-requires c κs =
     let h = ready (c .before .before .before) in
-    (h .fit .fit .chips, h .fit .fit .records, h .fit .fit .slots, h .whole, h .stripe, h .member, h .fit .stripe _ (h .stripe))
+    let p = h .ready in
+    (p .fit .fit .chips, p .fit .fit .records, p .fit .fit .slots, h .whole, p .stripe, p .member, p .fit .stripe _ (p .stripe))
 
 returns-2 : tie.Need-returns-2
 returns-2 c = read-done _ _ _ _ _ (passed (c .before .before .before .before .before .before)) (c .before .before .fetch .ensures)
