@@ -9,7 +9,7 @@ use crate::reference::*;
 pub type Breaker = fn(&mut Random, Shape, &mut Images) -> bool;
 
 /// Each condition with the refusal that must follow when no chip is lost.
-pub const BREAKERS: [(&str, u64, Breaker); 42] = [
+pub const BREAKERS: [(&str, u64, Breaker); 43] = [
     ("current beyond B x K", 4, |r, g, i| change(r, g, i, |_, c| c.current != NONE, beyond_current)),
     ("old beyond B x K", 4, |r, g, i| change(r, g, i, |_, c| c.old != NONE, beyond_old)),
     ("parity beyond B x K", 4, |r, g, i| change(r, g, i, |e, _| e.parity != NONE, beyond_parity)),
@@ -39,6 +39,7 @@ pub const BREAKERS: [(&str, u64, Breaker); 42] = [
     ("old with bit clear", 4, |r, g, i| {
         change(r, g, i, |e, c| !c.set && e.parity != NONE, |r, g, e, m| e.old[m] = page(r, g))
     }),
+    ("0 for none", 4, |r, g, i| change(r, g, i, |e, _| e.bitmap == 0 && e.parity != NONE, zero_for_none)),
     ("bit without current", 4, |r, g, i| change(r, g, i, |_, c| c.set, |_, _, e, m| e.current[m] = NONE)),
     ("current equal to old", 4, |r, g, i| {
         change(r, g, i, |_, c| c.old != NONE, |_, _, e, m| e.old[m] = e.current[m])
@@ -141,6 +142,13 @@ fn beyond_old(random: &mut Random, shape: Shape, record: &mut Record, member: us
 
 fn beyond_parity(random: &mut Random, shape: Shape, record: &mut Record, _: usize) {
     beyond(random, shape, &mut record.parity);
+}
+
+/// The first two old numbers, and all current ones that are none, become page 0.
+fn zero_for_none(_: &mut Random, _: Shape, record: &mut Record, _: usize) {
+    for number in record.current.iter_mut().chain(&mut record.old[..2]).filter(|number| **number == NONE) {
+        *number = 0;
+    }
 }
 
 /// Changes a random record, at a random member, among those that fit.

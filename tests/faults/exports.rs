@@ -1,9 +1,9 @@
 //! The calls for C over the crates as Rust: pointers and lengths, as `include/vazhettu.h` has them. A call
 //! that panics aborts the program, and so does one that takes longer than any call does.
 
+use answers::Report;
 use layout::Geometry;
 use std::sync::Once;
-use vazhettu::Report;
 
 /// Of the process's own time, so that a busy machine makes no difference.
 const SECONDS: i64 = 10;
@@ -31,7 +31,7 @@ fn set_timer(seconds: i64) {
     unsafe { setitimer(ITIMER_VIRTUAL, &times, std::ptr::null_mut()) };
 }
 
-fn timed(call: impl FnOnce() -> Report) -> Report {
+fn timed<T>(call: impl FnOnce() -> T) -> T {
     static WATCHED: Once = Once::new();
     // SAFETY: the handler has the type that the C library asks for.
     WATCHED.call_once(|| unsafe {

@@ -2,11 +2,24 @@
 
 use rules::Answer;
 use rules::Refusal;
+use stores::Counts;
 use stores::Progress;
 ghost use mathlib.Core.Path.{_≡_};
 ghost use Rattle.rules.specs.Refusals.{refusalNumber};
 ghost use mathlib.Core.Bool.{cond};
+ghost use Rattle.stores.specs.Steps.{noCounts};
 ghost use Rattle.rules.specs.declared.Answer.the-variants.{Cut, Done};
+ghost use Rattle.answers.specs.Reports.{reportOf};
+
+// 0 for done, 255 for cut, or the number of the refusal; and the counts.
+#[repr(C)]
+pub struct Report {
+    pub status: u64,
+    pub reads: u64,
+    pub programs: u64,
+    pub erases: u64,
+    pub stores: u64,
+}
 
 // The number of a refusal in the table.
 pub fn refusal_number(r: Refusal) -> u64
@@ -35,5 +48,31 @@ pub fn answer(p: Progress) -> Answer
         Answer::Cut(counts)
     } else {
         Answer::Done(counts)
+    }
+}
+
+// A report of an answer that has counts.
+pub fn with_counts(status: u64, c: Counts) -> Report
+    ensures { λ r. ⌜ r ≡ reportOf status c ⌝ }
+{
+    Report {
+        status,
+        reads: c.reads,
+        programs: c.programs,
+        erases: c.erases,
+        stores: c.stores,
+    }
+}
+
+// A report of a refusal, whose counts are zero.
+pub fn without_counts(r: Refusal) -> Report
+    ensures { λ t. ⌜ t ≡ reportOf (refusalNumber r) noCounts ⌝ }
+{
+    Report {
+        status: refusal_number(r),
+        reads: 0,
+        programs: 0,
+        erases: 0,
+        stores: 0,
     }
 }

@@ -1,23 +1,12 @@
 -- What a foreign caller sees of an answer: its number, and its counts.
 use Rattle.layout.specs.Images.{Images}
-use Rattle.stores.specs.declared.Counts.{Counts}
 use mathlib.Core.List.{List}
 use Prim.Native.Nat.{ℕ}
 use Rattle.rules.specs.declared.Answer.{Answer}
 use Rattle.rules.specs.declared.Reading.{Reading}
 use Rattle.rules.specs.Calls.{Outcome, ReadOutcome, statusOf, countsOf, readStatusOf, readCountsOf}
-use Rattle.vazhettu.specs.declared.Report.{Report}
-
--- a number and counts
-abbrev pub reportOf : ℕ → Counts → Report
-reportOf status n =
-    record {
-      status = status;
-      reads = n .reads;
-      programs = n .programs;
-      erases = n .erases;
-      stores = n .stores;
-    }
+use Rattle.answers.specs.declared.Report.{Report}
+use Rattle.answers.specs.Reports.{reportOf}
 
 -- of a call that stores
 abbrev pub reported : Answer → Report

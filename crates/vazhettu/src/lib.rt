@@ -1,52 +1,16 @@
 //! The calls for C and Rust: slices as pointer and length, the answer as a struct of numbers.
 
+use answers::Report;
+use answers::with_counts;
+use answers::without_counts;
 use layout::Geometry;
 use rules::Answer;
 use rules::Reading;
-use rules::Refusal;
-use stores::Counts;
 ghost use mathlib.Core.Path.{_≡_};
 ghost use Rattle.layout.specs.Layout.{layoutOf};
 ghost use Rattle.stores.specs.Allowance.{images};
-ghost use Rattle.rules.specs.Refusals.{refusalNumber};
 ghost use Rattle.rules.specs.Calls.{formatCall, openCall, writeCall, commitCall, collectCall, readCall};
-ghost use Rattle.vazhettu.specs.Reports.{reportOf, reported, readReported, Reported, reportedOf, ReadReported, readReportedOf};
-
-// 0 for done, 255 for cut, or the number of the refusal; and the counts.
-#[repr(C)]
-pub struct Report {
-    pub status: u64,
-    pub reads: u64,
-    pub programs: u64,
-    pub erases: u64,
-    pub stores: u64,
-}
-
-// A report of an answer that has counts.
-fn with_counts(status: u64, c: Counts) -> Report
-    ensures { λ r. ⌜ r ≡ reportOf status c ⌝ }
-{
-    Report {
-        status,
-        reads: c.reads,
-        programs: c.programs,
-        erases: c.erases,
-        stores: c.stores,
-    }
-}
-
-// A report of a refusal, whose counts are zero.
-fn without_counts(r: Refusal) -> Report
-    ensures { λ t. ⌜ t ≡ reportOf (refusalNumber r) (record { reads = 0; programs = 0; erases = 0; stores = 0 }) ⌝ }
-{
-    Report {
-        status: answers::refusal_number(r),
-        reads: 0,
-        programs: 0,
-        erases: 0,
-        stores: 0,
-    }
-}
+ghost use Rattle.vazhettu.specs.Reports.{reported, readReported, Reported, reportedOf, ReadReported, readReportedOf};
 
 // A report of the answer of a call that stores.
 fn report_of(a: Answer) -> Report

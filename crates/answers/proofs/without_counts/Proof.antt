@@ -1,7 +1,7 @@
 -- The number of the refusal.
 use borrow.Author.Needs.{needs}
-use Rattle.vazhettu.proofs.without_counts.Statement.{statement}
-use Rattle.vazhettu.proofs.without_counts.Tie as tie
+use Rattle.answers.proofs.without_counts.Statement.{statement}
+use Rattle.answers.proofs.without_counts.Tie as tie
 
 refusal-number-requires : tie.Need-refusal-number-requires
 refusal-number-requires c κs = search needs
