@@ -1,6 +1,6 @@
 -- What a foreign caller sees of an answer: its number, and its counts.
 use Prim.Native.Nat.{ℕ}
-use Rattle.stores.specs.declared.Counts.{Counts}
+use Rattle.steps.specs.declared.Counts.{Counts}
 use Rattle.answers.specs.declared.Report.{Report}
 
 -- a number and counts

@@ -2,12 +2,12 @@
 
 use rules::Answer;
 use rules::Refusal;
-use stores::Counts;
-use stores::Progress;
+use steps::Counts;
+use steps::Progress;
 ghost use mathlib.Core.Path.{_≡_};
 ghost use Rattle.rules.specs.Refusals.{refusalNumber};
 ghost use mathlib.Core.Bool.{cond};
-ghost use Rattle.stores.specs.Steps.{noCounts};
+ghost use Rattle.steps.specs.Steps.{noCounts};
 ghost use Rattle.rules.specs.declared.Answer.the-variants.{Cut, Done};
 ghost use Rattle.answers.specs.Reports.{reportOf};
 

@@ -6,7 +6,7 @@ use layout::Geometry;
 use rules::Answer;
 use rules::Reading;
 use rules::Refusal;
-use stores::Counts;
+use steps::Counts;
 ghost use Prim.Native.Nat.{_≤_};
 
 const ALLOWANCE: u64 = 65535;
@@ -71,7 +71,7 @@ fn first(page: &[u8; 16]) -> u64 {
 
 fn write(chips: &mut [u8], records: &mut [u8], slots: &mut [u8], lost: u64, page: u64, byte: u8) {
     let bytes = [byte; 16];
-    let answer = store::write(
+    let answer = calls::write(
         geometry(),
         chips,
         records,
@@ -86,7 +86,7 @@ fn write(chips: &mut [u8], records: &mut [u8], slots: &mut [u8], lost: u64, page
 
 fn read(chips: &[u8], records: &[u8], slots: &[u8], lost: u64, page: u64) {
     let mut bytes = [0u8; 16];
-    let answer = store::read(geometry(), chips, records, slots, lost, page, &mut bytes);
+    let answer = calls::read(geometry(), chips, records, slots, lost, page, &mut bytes);
     match answer {
         Reading::Done(c) => {
             say_byte(first(&bytes));
@@ -97,7 +97,7 @@ fn read(chips: &[u8], records: &[u8], slots: &[u8], lost: u64, page: u64) {
 }
 
 fn commit(chips: &mut [u8], records: &mut [u8], slots: &[u8], lost: u64, stripe: u64) {
-    let answer = store::commit(geometry(), chips, records, slots, lost, stripe, ALLOWANCE);
+    let answer = calls::commit(geometry(), chips, records, slots, lost, stripe, ALLOWANCE);
     say_answer(answer);
 }
 
@@ -189,6 +189,6 @@ fn main() {
     let mut chips = [0u8; 1920];
     let mut records = [0u8; 224];
     let mut slots = [0u8; 48];
-    store::format(geometry(), &mut chips, &mut records, &slots, ALLOWANCE);
+    calls::format(geometry(), &mut chips, &mut records, &slots, ALLOWANCE);
     obey_all(&mut chips, &mut records, &mut slots);
 }

@@ -8,12 +8,12 @@ use mathlib.Core.List.{List, [], _∷_}
 use lib.ListN.{length, getD, set, take, drop}
 use lib.Seq.{drop-drop, getD-set-same, getD-set-other}
 use borrow.Author.Tests.{lt-ltb, le-ltb}
-use Rattle.units.specs.Number.{number}
-use Rattle.units.specs.Units.{part, unit}
-use Rattle.units.specs.Update.{at}
-use Rattle.units.proofs.Looks.{by-same}
-use Rattle.units.proofs.Units.{part-unit, getD-unit}
-use Rattle.units.proofs.Updates.{at-unique}
+use Rattle.bytes.specs.Number.{number}
+use Rattle.bytes.specs.Units.{part, unit}
+use Rattle.ranges.specs.Update.{at}
+use Rattle.ranges.proofs.Looks.{by-same}
+use Rattle.bytes.proofs.Units.{part-unit, getD-unit}
+use Rattle.ranges.proofs.Updates.{at-unique}
 use Rattle.layout.specs.declared.Geometry.{Geometry}
 use Rattle.layout.specs.Layout.{Layout, layoutOf}
 use Rattle.layout.specs.Record.{sixFrom, recordOf, recordAt}

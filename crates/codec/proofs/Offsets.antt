@@ -8,9 +8,9 @@ use mathlib.Core.List.{List, [], _∷_, _++_, append-nil}
 use lib.Arith.{digits-lt}
 use lib.ListN.{length, drop, getD, length-drop, drop-of-length-le}
 use lib.Seq.{take-append-seam, drop-append-seam}
-use Rattle.units.specs.Number.{number, digits}
-use Rattle.units.specs.Units.{part, put, unit}
-use Rattle.units.proofs.Units.{apart, unit-fits, unit-unit, part-unit, getD-unit}
+use Rattle.bytes.specs.Number.{number, digits}
+use Rattle.bytes.specs.Units.{part, put, unit}
+use Rattle.bytes.proofs.Units.{apart, unit-fits, unit-unit, part-unit, getD-unit}
 use Rattle.layout.specs.declared.Geometry.{Geometry}
 use Rattle.layout.specs.Layout.{layoutOf, limits, none, pages, chipBytes}
 use Rattle.layout.specs.Page.{pageOf, pageAt, bytesOfPage}

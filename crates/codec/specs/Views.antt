@@ -5,8 +5,8 @@ use mathlib.Core.Path.{_≡_}
 use mathlib.Core.List.{List, [], _∷_}
 use lib.ListN.{getD}
 use lib.Dec.{ltb}
-use Rattle.units.specs.Number.{number}
-use Rattle.units.specs.Units.{part}
+use Rattle.bytes.specs.Number.{number}
+use Rattle.bytes.specs.Units.{part}
 use Rattle.layout.specs.Layout.{Layout, none}
 use Rattle.layout.specs.Page.{Page}
 use Rattle.layout.specs.Record.{Record}

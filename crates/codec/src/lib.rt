@@ -1,10 +1,10 @@
 //! Pages, records and the collection record in their images, and where the pages of a stripe stand.
 
+use bytes::byte;
+use bytes::copy;
+use bytes::number_at;
+use bytes::zeros;
 use layout::Geometry;
-use slices::byte;
-use slices::copy;
-use slices::number_at;
-use slices::zeros;
 ghost use mathlib.Core.Path.{_≡_};
 ghost use mathlib.Core.Bool.{true};
 ghost use mathlib.Core.List.{[], _∷_};

@@ -4,8 +4,8 @@ use mathlib.Core.Path.{_≡_, refl, ap}
 use mathlib.Core.Bool.{Bool, true, false, not, _&&_, _||_, and-true, and-false}
 use lib.Dec.{leb, ltb, eqb}
 use borrow.Author.Tests.{ltb-false, leb-true, leb-false, lt-ltb, le-ltb, le-leb, lt-leb, eq-eqb}
-use Rattle.units.proofs.Looks.{by-order}
-use Rattle.units.proofs.Tests.{neither}
+use Rattle.ranges.proofs.Looks.{by-order}
+use Rattle.ranges.proofs.Tests.{neither}
 use Rattle.layout.specs.declared.Geometry.{Geometry}
 use Rattle.layout.specs.Layout.{Layout, layoutOf, limits, none, pages, inBlock}
 use Rattle.layout.specs.Page.{Page}

@@ -14,12 +14,12 @@ use Rattle.layout.specs.Record.{recordAt}
 use Rattle.layout.specs.Collection.{Collection, collectionAt}
 use Rattle.layout.specs.Images.{Images, slotsLength}
 use Rattle.layout.proofs.Pages.{page-in-fits}
-use Rattle.stores.specs.declared.Progress.{Progress}
-use Rattle.stores.specs.Store.{stripe}
-use Rattle.stores.specs.Steps.{plain, applyAll, andThen, thenBelow}
-use Rattle.stores.specs.Allowance.{Sane, Ran, images}
-use Rattle.stores.proofs.Prefixes.{leads-weaken}
-use Rattle.stores.proofs.Allowances.{ran-none, ran-whole, ran-cut, ran-then-below}
+use Rattle.steps.specs.declared.Progress.{Progress}
+use Rattle.steps.specs.Store.{stripe}
+use Rattle.steps.specs.Steps.{plain, applyAll, andThen, thenBelow}
+use Rattle.steps.specs.Allowance.{Sane, Ran, images}
+use Rattle.steps.proofs.Prefixes.{leads-weaken}
+use Rattle.steps.proofs.Allowances.{ran-none, ran-whole, ran-cut, ran-then-below}
 use Rattle.rules.specs.Open.{repointed, due, ending, moveFrom, moveSteps, finishOf, finishSteps}
 use Rattle.rules.proofs.Soundness.Statements.{Usable, Sound}
 use Rattle.rules.proofs.Stores.Kept.{Kept}

@@ -5,18 +5,18 @@ use mathlib.Core.Path.{_≡_}
 use mathlib.Core.Bool.{true, false}
 use mathlib.Core.List.{List, []}
 use lib.ListN.{length}
-use Rattle.units.specs.declared.Found.the-variants.{At, Nothing}
-use Rattle.units.specs.Look.{whenFound}
+use Rattle.ranges.specs.declared.Found.the-variants.{At, Nothing}
+use Rattle.ranges.specs.Look.{whenFound}
 use Rattle.layout.specs.declared.Geometry.{Geometry}
 use Rattle.layout.specs.Layout.{Layout, layoutOf}
 use Rattle.layout.specs.Page.{pageAt}
 use Rattle.layout.specs.Record.{recordAt}
 use Rattle.layout.specs.Images.{Images, slotsLength}
-use Rattle.stores.specs.declared.Progress.{Progress}
-use Rattle.stores.specs.Steps.{andThen}
-use Rattle.stores.specs.Allowance.{Ran, images}
-use Rattle.stores.proofs.Prefixes.{leads-weaken}
-use Rattle.stores.proofs.Allowances.{ran-then, ran-then-cut, ran-whole}
+use Rattle.steps.specs.declared.Progress.{Progress}
+use Rattle.steps.specs.Steps.{andThen}
+use Rattle.steps.specs.Allowance.{Ran, images}
+use Rattle.steps.proofs.Prefixes.{leads-weaken}
+use Rattle.steps.proofs.Allowances.{ran-then, ran-then-cut, ran-whole}
 use Rattle.rules.specs.Blocks.{lowestCleanBlock}
 use Rattle.rules.specs.Collect.{copySteps, victimOf, collectSteps}
 use Rattle.rules.specs.Open.{finishSteps}

@@ -8,7 +8,7 @@ use mathlib.Core.List.{List, [], _∷_}
 use lib.ListN.{length, getD, drop, drop-of-length-le}
 use lib.Dec.{eqb, leb, ltb}
 use borrow.Author.Tests.{eqb-true, leb-true, ltb-true}
-use Rattle.units.proofs.Tests.{chain-all}
+use Rattle.ranges.proofs.Tests.{chain-all}
 use Rattle.commands.specs.Parsing.{other, digitValue, digitCount, numbered, alone, filled, byteOf, command, commandFrom, commandOf}
 
 module _ (line : List ℕ) (k : ℕ) where

@@ -11,8 +11,8 @@ use lib.ListN.{length, getD, drop, drop-of-length-le}
 use lib.Seq.{drop-cons}
 use lib.Dec.{leb}
 use borrow.Author.Tests.{lt-ltb, le-ltb, le-leb, lt-leb, leb-true}
-use Rattle.units.proofs.Looks.{by-test}
-use Rattle.units.proofs.Tests.{and-both}
+use Rattle.ranges.proofs.Looks.{by-test}
+use Rattle.ranges.proofs.Tests.{and-both}
 use Rattle.commands.specs.Parsing.{digitValue, digitCount, decimalValue}
 
 -- a byte is a decimal digit, a letter from a to f, or none of these

@@ -9,8 +9,8 @@ use mathlib.Core.List.{List, [], _∷_}
 use lib.ListN.{length, getD}
 use lib.Dec.{eqb}
 use borrow.Author.Tests.{eqb-true}
-use Rattle.units.proofs.Looks.{by-test}
-use Rattle.units.proofs.Tests.{and-both}
+use Rattle.ranges.proofs.Looks.{by-test}
+use Rattle.ranges.proofs.Tests.{and-both}
 use Rattle.commands.specs.declared.Command.{Command}
 use Rattle.commands.specs.Lines.{spelled, Decimal, line, asks, Gives, w-line, r-line, c-line, x-line}
 use Rattle.commands.specs.Parsing.{digitValue, digitCount, numbered, alone, filled, commandOf}

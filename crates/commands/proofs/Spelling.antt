@@ -8,7 +8,7 @@ use mathlib.Core.List.{List, [], _∷_, _++_, map}
 use lib.ListN.{length, getD, length-append, length-map}
 use lib.Seq.{getD-append-add}
 use borrow.Author.Tests.{lt-ltb, le-ltb}
-use Rattle.units.proofs.Looks.{by-order}
+use Rattle.ranges.proofs.Looks.{by-order}
 use Rattle.commands.specs.Lines.{spelled, value, line}
 use Rattle.commands.specs.Parsing.{digitValue, digitCount, decimalValue}
 use Rattle.commands.proofs.Digits.{by-digit, decimal-digit, letter-digit, count-digit, count-none}

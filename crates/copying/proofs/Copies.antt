@@ -6,21 +6,21 @@ use mathlib.Core.Path.{_≡_, refl, sym, ap, _∙_}
 use mathlib.Core.Bool.{true, false}
 use mathlib.Core.List.{List, [], _∷_, _++_}
 use lib.ListN.{length}
-use Rattle.units.specs.declared.Found.the-variants.{At}
-use Rattle.units.specs.Look.{countBelow}
-use Rattle.units.proofs.Counts.{count-pass, count-fail, count-start, count-le}
+use Rattle.ranges.specs.declared.Found.the-variants.{At}
+use Rattle.ranges.specs.Look.{countBelow}
+use Rattle.ranges.proofs.Counts.{count-pass, count-fail, count-start, count-le}
 use Rattle.layout.specs.declared.Geometry.{Geometry}
 use Rattle.layout.specs.Layout.{Layout, layoutOf, pageIn}
 use Rattle.layout.specs.Page.{Page, pageAt}
 use Rattle.layout.specs.Record.{recordAt}
 use Rattle.layout.specs.Images.{Images, slotsLength}
 use Rattle.layout.proofs.Pages.{in-other-block}
-use Rattle.stores.specs.declared.Progress.{Progress}
-use Rattle.stores.specs.Store.{program, collection, apply}
-use Rattle.stores.specs.Steps.{Step, plain, stepsBelow, applyAll, andThen}
-use Rattle.stores.specs.Allowance.{Sane, Ran, images}
-use Rattle.stores.proofs.Prefixes.{leads-weaken}
-use Rattle.stores.proofs.Allowances.{ran-none, ran-append, ran-then, ran-below, ran-below-cut, ran-longer, ran-whole, ran-going}
+use Rattle.steps.specs.declared.Progress.{Progress}
+use Rattle.steps.specs.Store.{program, collection, apply}
+use Rattle.steps.specs.Steps.{Step, plain, stepsBelow, applyAll, andThen}
+use Rattle.steps.specs.Allowance.{Sane, Ran, images}
+use Rattle.steps.proofs.Prefixes.{leads-weaken}
+use Rattle.steps.proofs.Allowances.{ran-none, ran-append, ran-then, ran-below, ran-below-cut, ran-longer, ran-whole, ran-going}
 use Rattle.rules.specs.Blocks.{namedIn, lowestCleanBlock}
 use Rattle.rules.specs.Collect.{phase, copyOf, copyFrom, copySteps, victimOf}
 use Rattle.rules.proofs.Soundness.Statements.{Usable, Sound}

@@ -1,5 +1,6 @@
 //! The first half of a collection: phase 1, the copies, phase 2.
 
+use bytes::copy;
 use codec::CollectionRecord;
 use codec::Spare;
 use codec::page_data;
@@ -8,22 +9,21 @@ use device::program;
 use device::store_collection;
 use layout::Geometry;
 use names::named_at;
-use slices::copy;
-use stores::Progress;
+use steps::Progress;
 ghost use mathlib.Core.Path.{_≡_};
 ghost use mathlib.Core.List.{List, [], _∷_};
 ghost use Prim.Native.Nat.{ℕ, _≤_, _<_};
 ghost use lib.ListN.{length};
-ghost use Rattle.units.specs.declared.Found.the-variants.{At};
+ghost use Rattle.ranges.specs.declared.Found.the-variants.{At};
 ghost use Rattle.layout.specs.Layout.{layoutOf, pages};
 ghost use Rattle.layout.specs.Page.{pageAt};
 ghost use Rattle.layout.specs.Record.{recordAt};
 ghost use Rattle.layout.specs.Images.{slotsLength};
 ghost use Rattle.rules.specs.Blocks.{lowestCleanBlock};
 ghost use Rattle.rules.specs.Collect.{phase, copyOf, victimOf, copySteps};
-ghost use Rattle.stores.specs.Store.{program as programStore, collection};
-ghost use Rattle.stores.specs.Steps.{plain};
-ghost use Rattle.stores.specs.Allowance.{Sane, Ran, images};
+ghost use Rattle.steps.specs.Store.{program as programStore, collection};
+ghost use Rattle.steps.specs.Steps.{plain};
+ghost use Rattle.steps.specs.Allowance.{Sane, Ran, images};
 ghost use Rattle.codec.specs.Fit.{ChipsFit, RecordsFit};
 ghost use Rattle.names.specs.Checked.{Settled};
 

@@ -4,8 +4,8 @@ use native.Mathlib.Omega.{arith}
 use mathlib.Core.Path.{_≡_}
 use mathlib.Core.List.{List}
 use lib.ListN.{length}
-use Rattle.units.specs.Units.{part}
-use Rattle.units.proofs.Units.{apart, unit-fits, units-fit, length-part}
+use Rattle.bytes.specs.Units.{part}
+use Rattle.bytes.proofs.Units.{apart, unit-fits, units-fit, length-part}
 use Rattle.layout.specs.declared.Geometry.{Geometry}
 use Rattle.layout.specs.Layout.{layoutOf, none, pages}
 use Rattle.layout.specs.Images.{chipsLength, recordsLength}

@@ -1,5 +1,7 @@
 //! The four kinds of store, each under the allowance: one page program, block erase, slot or record.
 
+use bytes::copy;
+use bytes::fill;
 use codec::CollectionRecord;
 use codec::Spare;
 use codec::StripeRecord;
@@ -8,10 +10,8 @@ use codec::fill_page;
 use codec::page_offset;
 use codec::record_bytes;
 use layout::Geometry;
-use slices::copy;
-use slices::fill;
-use stores::Counts;
-use stores::Progress;
+use steps::Counts;
+use steps::Progress;
 ghost use mathlib.Core.Path.{_≡_};
 ghost use mathlib.Core.Bool.{true};
 ghost use mathlib.Core.List.{List, [], _∷_};
@@ -19,11 +19,11 @@ ghost use Prim.Native.Nat.{ℕ, _+_, _-_, _^_, _≤_, _<_, min};
 ghost use lib.ListN.{length};
 ghost use Rattle.layout.specs.Layout.{layoutOf, pages};
 ghost use Rattle.layout.specs.Record.{emptyRecord};
-ghost use Rattle.stores.specs.Store.{Store, program as programStore, erase as eraseStore, slot as slotStore, stripe, collection, recorded, apply};
-ghost use Rattle.stores.specs.Steps.{plain, noCounts, programsOf, erasesOf};
+ghost use Rattle.steps.specs.Store.{Store, program as programStore, erase as eraseStore, slot as slotStore, stripe, collection, recorded, apply};
+ghost use Rattle.steps.specs.Steps.{plain, noCounts, programsOf, erasesOf};
 ghost use Rattle.codec.specs.Fit.{ChipsFit, RecordsFit, SlotsFit};
 ghost use Rattle.codec.specs.Views.{recordFrom, collectionFrom, pageFrom, SmallRecord, SmallSpare};
-ghost use Rattle.stores.specs.Allowance.{started, Sane, Ran, images};
+ghost use Rattle.steps.specs.Allowance.{started, Sane, Ran, images};
 
 // At the beginning of a call. No list is as long as 2^59 stores, so a larger allowance is as good as that, and eight reads for each
 // of them still fit a counter.

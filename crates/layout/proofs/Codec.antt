@@ -8,10 +8,10 @@ use mathlib.Core.List.{List, [], _∷_, _++_, append-assoc}
 use lib.ListN.{length, getD, replicate, length-append, length-replicate}
 use lib.Seq.{getD-append-add, getD-at, take-at}
 use borrow.Author.Tests.{lt-ltb, le-ltb}
-use Rattle.units.specs.Number.{number, digits}
-use Rattle.units.specs.Units.{part}
-use Rattle.units.proofs.Units.{apart, part-append-left, part-append-from, part-whole}
-use Rattle.units.proofs.Numbers.{length-digits, number-digits}
+use Rattle.bytes.specs.Number.{number, digits}
+use Rattle.bytes.specs.Units.{part}
+use Rattle.bytes.proofs.Units.{apart, part-append-left, part-append-from, part-whole}
+use Rattle.bytes.proofs.Numbers.{length-digits, number-digits}
 use Rattle.layout.specs.Layout.{Layout, none, pageBytes, recordBytes}
 use Rattle.layout.specs.Page.{Page, pageOf, bytesOfPage}
 use Rattle.layout.specs.Record.{Record, row, restBytes, sixFrom, recordOf, bytesOfRecord}

@@ -6,7 +6,7 @@ use mathlib.Core.Bool.{Bool, true}
 use mathlib.Core.List.{List, [], _∷_}
 use lib.Dec.{leb, eqb}
 use borrow.Author.Tests.{leb-true, eqb-true, le-leb, eq-eqb}
-use Rattle.units.proofs.Tests.{and-left, and-right, all-chain}
+use Rattle.ranges.proofs.Tests.{and-left, and-right, all-chain}
 use Rattle.layout.specs.Layout.{Layout, none, limits}
 
 module _ (l : Layout) where

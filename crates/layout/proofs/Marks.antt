@@ -8,8 +8,8 @@ use mathlib.Core.List.{List}
 use lib.ListN.{length, getD, set, replicate, length-set, getD-replicate}
 use lib.Seq.{getD-set-same, getD-set-other}
 use borrow.Author.Tests.{eq-eqb, ne-eqb}
-use Rattle.units.specs.Look.{someBelow}
-use Rattle.units.proofs.Looks.{by-same}
+use Rattle.ranges.specs.Look.{someBelow}
+use Rattle.ranges.proofs.Looks.{by-same}
 use Rattle.layout.specs.Record.{Record, noSlot, slotOf}
 
 -- the table says of every slot whether some record below j has it

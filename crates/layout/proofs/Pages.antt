@@ -8,10 +8,10 @@ use mathlib.Core.Bool.{true, false}
 use lib.Arith.{digits-lt}
 use lib.Dec.{leb, ltb}
 use borrow.Author.Tests.{lt-ltb, le-leb, ltb-true, leb-true}
-use Rattle.units.proofs.Looks.{by-test, by-order}
-use Rattle.units.proofs.Numbers.{pow-positive}
-use Rattle.units.proofs.Tests.{and-both}
-use Rattle.units.proofs.Units.{same-index}
+use Rattle.ranges.proofs.Looks.{by-test, by-order}
+use Rattle.bytes.proofs.Numbers.{pow-positive}
+use Rattle.ranges.proofs.Tests.{and-both}
+use Rattle.bytes.proofs.Units.{same-index}
 use Rattle.layout.specs.Layout.{Layout, none, pages, pageIn, inBlock}
 use Rattle.layout.proofs.Limits.{Within}
 

@@ -5,9 +5,9 @@ use mathlib.Core.Path.{_≡_, refl}
 use mathlib.Core.Bool.{true, false}
 use mathlib.Core.List.{[], _∷_, _++_}
 use lib.ListN.{replicate}
-use Rattle.units.specs.Number.{digits}
-use Rattle.units.specs.Rows.{Rows}
-use Rattle.units.proofs.Looks.{by-test}
+use Rattle.bytes.specs.Number.{digits}
+use Rattle.ranges.specs.Rows.{Rows}
+use Rattle.ranges.proofs.Looks.{by-test}
 use Rattle.layout.specs.declared.Geometry.{Geometry}
 use Rattle.layout.specs.Layout.{Layout, layoutOf, none, limits}
 use Rattle.layout.specs.Rotation.{parityChip, memberChip, memberOf, stripeOf}

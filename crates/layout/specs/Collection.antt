@@ -2,8 +2,8 @@
 use Prim.Native.Nat.{ℕ, _-_}
 use mathlib.Core.List.{List, _∷_, _++_}
 use lib.ListN.{getD}
-use Rattle.units.specs.Number.{number, digits}
-use Rattle.units.specs.Units.{part, unit}
+use Rattle.bytes.specs.Number.{number, digits}
+use Rattle.bytes.specs.Units.{part, unit}
 use Rattle.layout.specs.Layout.{Layout, recordBytes}
 
 -- "phase (0, 1, 2), chip, victim block (2 bytes), destination block (2 bytes), then zeros"

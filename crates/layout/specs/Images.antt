@@ -4,7 +4,7 @@ use mathlib.Core.Bool.{Bool, _&&_}
 use mathlib.Core.List.{List}
 use lib.ListN.{length}
 use lib.Dec.{eqb}
-use Rattle.units.specs.Units.{unit}
+use Rattle.bytes.specs.Units.{unit}
 use Rattle.layout.specs.Layout.{Layout, pages, pageBytes, recordBytes}
 
 -- "the three lent images"

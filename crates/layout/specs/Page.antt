@@ -4,8 +4,8 @@ use mathlib.Core.Bool.{Bool}
 use mathlib.Core.List.{List, _∷_, _++_}
 use lib.ListN.{take, getD, replicate}
 use lib.Dec.{eqb}
-use Rattle.units.specs.Number.{number, digits}
-use Rattle.units.specs.Units.{part, unit}
+use Rattle.bytes.specs.Number.{number, digits}
+use Rattle.bytes.specs.Units.{part, unit}
 use Rattle.layout.specs.Layout.{Layout, pageBytes, chipBytes}
 
 -- the W data bytes, and what the spare bytes say

@@ -4,8 +4,8 @@ use mathlib.Core.Bool.{Bool, not, cond}
 use mathlib.Core.List.{List, [], _∷_, _++_}
 use lib.ListN.{getD}
 use lib.Dec.{ltb, eqb}
-use Rattle.units.specs.Number.{number, digits}
-use Rattle.units.specs.Units.{part, unit}
+use Rattle.bytes.specs.Number.{number, digits}
+use Rattle.bytes.specs.Units.{part, unit}
 use Rattle.layout.specs.Layout.{Layout, none, recordBytes}
 
 -- "Record j is for stripe j: six current page numbers, six old ones, the parity page number, bitmap byte, slot byte, four of 0."

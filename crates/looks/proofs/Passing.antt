@@ -7,7 +7,7 @@ use mathlib.Core.Bool.{Bool, true, false, not}
 use mathlib.Core.List.{List, [], _∷_, _++_}
 use lib.Dec.{ltb}
 use borrow.Author.Tests.{eqb-true, not-true, not-false, lt-ltb, le-ltb, ltb-true, ltb-false}
-use Rattle.units.proofs.Looks.{by-test}
+use Rattle.ranges.proofs.Looks.{by-test}
 use Rattle.layout.specs.declared.Geometry.{Geometry}
 use Rattle.layout.specs.Layout.{Layout, layoutOf, noChip, limits}
 use Rattle.layout.specs.Page.{pageAt}
@@ -28,8 +28,8 @@ use Rattle.rules.proofs.Soundness.RecordChecks.{record-pass}
 use Rattle.codec.specs.Fit.{ChipsFit, RecordsFit, SlotsFit}
 use Rattle.names.specs.Checked.{Checked, Settled}
 use Rattle.names.proofs.Statements.{stamps-pass}
-use Rattle.checks.specs.declared.SlotScan.{SlotScan}
-use Rattle.checks.specs.Slots.{slotScan}
+use Rattle.records.specs.declared.SlotScan.{SlotScan}
+use Rattle.records.specs.Slots.{slotScan}
 use Rattle.spares.specs.declared.ChipScan.{ChipScan}
 use Rattle.spares.specs.Scans.{chipScans}
 use Rattle.space.specs.Victims.{Victims}

@@ -2,7 +2,7 @@
 use mathlib.Core.Bool.{true, false}
 use lib.ListN.{replicate}
 use Prim.Native.Nat.{ℕ}
-use Rattle.units.specs.declared.Found.the-variants.{Nothing}
+use Rattle.ranges.specs.declared.Found.the-variants.{Nothing}
 use Rattle.layout.specs.Layout.{Layout}
 use Rattle.layout.specs.Page.{pageAt}
 use Rattle.layout.specs.Record.{recordAt}
@@ -10,7 +10,7 @@ use Rattle.layout.specs.Images.{Images}
 use Rattle.rules.specs.declared.Refusal.{Refusal}
 use Rattle.rules.specs.declared.Check.{Check}
 use Rattle.rules.specs.declared.Check.the-variants.{Passed, Failed}
-use Rattle.checks.specs.Slots.{slotScan}
+use Rattle.records.specs.Slots.{slotScan}
 use Rattle.spares.specs.declared.ChipScan.{ChipScan}
 use Rattle.spares.specs.Scans.{chipScans}
 use Rattle.looks.specs.declared.Look.{Look}

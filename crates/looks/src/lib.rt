@@ -1,24 +1,24 @@
 //! The look at the images with which every call begins: what the rows of the table about them come to, and what the one pass over
 //! records and spares has found.
 
-use checks::SlotScan;
-use checks::geometry_passes;
-use checks::lengths_pass;
-use checks::scan_records;
 use codec::collection_at;
 use layout::Geometry;
+use ranges::Found;
+use records::SlotScan;
+use records::geometry_passes;
+use records::lengths_pass;
+use records::scan_records;
 use rules::Check;
 use rules::Refusal;
 use spares::ChipScan;
 use spares::scan_spares;
-use units::Found;
 ghost use mathlib.Core.Path.{_≡_};
 ghost use Prim.Native.Nat.{_*_};
 ghost use lib.Dec.{ltb};
 ghost use Rattle.layout.specs.Layout.{layoutOf};
 ghost use Rattle.rules.specs.declared.Check.the-variants.{Passed};
 ghost use Rattle.rules.specs.Refusals.{unless, checked, buffersRows, imagesRows, settledRows};
-ghost use Rattle.stores.specs.Allowance.{images};
+ghost use Rattle.steps.specs.Allowance.{images};
 ghost use Rattle.looks.specs.Looks.{below, nothing, lookOf};
 
 // What the rows come to, and where they pass what was found.

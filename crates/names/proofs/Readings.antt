@@ -8,10 +8,10 @@ use mathlib.Core.Bool.{false, not, _&&_, _||_}
 use mathlib.Core.List.{List}
 use lib.Dec.{eqb}
 use borrow.Author.Tests.{lt-ltb, le-ltb, eq-eqb, ne-eqb}
-use Rattle.units.specs.Number.{number}
-use Rattle.units.specs.Units.{part}
-use Rattle.units.proofs.Units.{part-unit}
-use Rattle.units.proofs.Counts.{count-start, count-le}
+use Rattle.bytes.specs.Number.{number}
+use Rattle.bytes.specs.Units.{part}
+use Rattle.bytes.proofs.Units.{part-unit}
+use Rattle.ranges.proofs.Counts.{count-start, count-le}
 use Rattle.layout.specs.declared.Geometry.{Geometry}
 use Rattle.layout.specs.Layout.{Layout, layoutOf, none}
 use Rattle.layout.specs.Rotation.{parityChip, memberOn}
@@ -22,7 +22,7 @@ use Rattle.codec.specs.declared.Spare.{Spare}
 use Rattle.codec.specs.Views.{spareOf}
 use Rattle.names.specs.declared.StripePages.{StripePages}
 use Rattle.names.specs.Stamps.{pagesOn, byStamp, hasMain, hasSide, namesBelow}
-use Rattle.units.proofs.Tallies.{ones, count-more}
+use Rattle.ranges.proofs.Tallies.{ones, count-more}
 
 module _ (g : Geometry) (xs : List ℕ) (j : ℕ) (stripe : j < g .s) where
   -- the numbers of record j at their offsets: the current pages, the old ones, the parity page

@@ -9,10 +9,10 @@ use mathlib.Core.Bool.{Bool, true, false, not, _&&_, _||_, and-true, and-false, 
 use mathlib.Core.List.{[], _∷_}
 use lib.Dec.{eqb, ltb}
 use borrow.Author.Tests.{eq-eqb, ne-eqb, eqb-true, lt-ltb, le-ltb, ltb-true}
-use Rattle.units.specs.Look.{allBelow, countBelow}
-use Rattle.units.proofs.Looks.{by-test, by-same, by-three, all-at, all-true}
-use Rattle.units.proofs.Tests.{and-both, both-and, chain-all, differ, or-by, unless-equal}
-use Rattle.units.proofs.Counts.{count-start, count-cong, count-implies, count-zero}
+use Rattle.ranges.specs.Look.{allBelow, countBelow}
+use Rattle.ranges.proofs.Looks.{by-test, by-same, by-three, all-at, all-true}
+use Rattle.ranges.proofs.Tests.{and-both, both-and, chain-all, differ, or-by, unless-equal}
+use Rattle.ranges.proofs.Counts.{count-start, count-cong, count-implies, count-zero}
 use Rattle.layout.specs.Layout.{Layout, none, isNone, pages}
 use Rattle.layout.specs.Page.{Page}
 use Rattle.layout.specs.Record.{Record}
@@ -23,7 +23,7 @@ use Rattle.rules.specs.Sound.{stampedPage, stampedNumber, stampedStripe}
 use Rattle.rules.proofs.Soundness.Statements.{Numbered, RecordSound, sound-member}
 use Rattle.rules.proofs.Stores.Names.{by-chip, by-name, main-member, side-member, main-parity, side-parity, named-by, name-named}
 use Rattle.names.specs.Stamps.{byStamp, namesBelow}
-use Rattle.units.proofs.Tallies.{same-tests, ones, count-more, count-or, count-at, count-full}
+use Rattle.ranges.proofs.Tallies.{same-tests, ones, count-more, count-or, count-at, count-full}
 
 -- what is none or stamped is stamped where it is not none
 or-found : (a b : Bool) → a || b ≡ true → not a && b ≡ not a

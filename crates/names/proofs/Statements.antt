@@ -7,9 +7,9 @@ use mathlib.Core.List.{List, [], _∷_}
 use lib.ListN.{length, replicate, length-replicate}
 use lib.Dec.{eqb}
 use borrow.Author.Tests.{eq-eqb}
-use Rattle.units.specs.Look.{allBelow, someBelow}
-use Rattle.units.proofs.Looks.{all-at}
-use Rattle.units.proofs.Tests.{chain-all, unless-equal}
+use Rattle.ranges.specs.Look.{allBelow, someBelow}
+use Rattle.ranges.proofs.Looks.{all-at}
+use Rattle.ranges.proofs.Tests.{chain-all, unless-equal}
 use Rattle.layout.specs.declared.Geometry.{Geometry}
 use Rattle.layout.specs.Layout.{Layout, layoutOf, limits, noChip}
 use Rattle.layout.specs.Page.{Page, pageAt}
@@ -17,7 +17,7 @@ use Rattle.layout.specs.Record.{Record, recordAt}
 use Rattle.layout.specs.Collection.{Collection, collectionAt}
 use Rattle.layout.specs.Images.{Images, lengths, chipsLength, recordsLength, slotsLength}
 use Rattle.layout.proofs.Limits.{Within, within as in-limits}
-use Rattle.stores.specs.Allowance.{images}
+use Rattle.steps.specs.Allowance.{images}
 use Rattle.rules.specs.Blocks.{cleanBlock, orderedBlock}
 use Rattle.rules.specs.Sound.{collecting, stampedStripe, phase1Sound, phase2Sound, chipSound, soundOrLost, sparesSound}
 use Rattle.rules.proofs.Soundness.Statements.{Usable, RecordsSound, ChipSound, Sound}

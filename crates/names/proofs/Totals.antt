@@ -7,8 +7,8 @@ use mathlib.Core.Path.{_≡_, refl, sym, _∙_}
 use mathlib.Core.Bool.{Bool, cond, _||_}
 use lib.Dec.{leb, eqb}
 use borrow.Author.Tests.{eq-eqb, le-leb, lt-leb}
-use Rattle.units.specs.Look.{allBelow, countBelow, sumBelow}
-use Rattle.units.proofs.Looks.{by-test, by-order, all-cong}
+use Rattle.ranges.specs.Look.{allBelow, countBelow, sumBelow}
+use Rattle.ranges.proofs.Looks.{by-test, by-order, all-cong}
 use Rattle.layout.specs.Layout.{Layout, none, isNone, pages}
 use Rattle.layout.specs.Rotation.{parityChip, memberChip}
 use Rattle.layout.specs.Page.{Page}
@@ -19,8 +19,8 @@ use Rattle.rules.specs.Sound.{stampedStripe}
 use Rattle.rules.proofs.Soundness.Statements.{RecordSound}
 use Rattle.rules.proofs.Stores.Names.{main-member, side-member, main-parity, side-parity}
 use Rattle.names.specs.Stamps.{byStamp, hasMain, hasSide, namesBelow, hasCurrent, hasOld, recordNames, namesIn}
-use Rattle.units.proofs.Tallies.{ones}
-use Rattle.units.proofs.Sums.{sum-cong, sum-at, sum-same, sum-beyond, sum-swap, counts-sum, sum-gap, but, sum-but-none, sum-but}
+use Rattle.ranges.proofs.Tallies.{ones}
+use Rattle.ranges.proofs.Sums.{sum-cong, sum-at, sum-same, sum-beyond, sum-swap, counts-sum, sum-gap, but, sum-but-none, sum-but}
 use Rattle.names.proofs.Stamping.{stamps-few, stamps-counted}
 
 -- of the pages y of each chip but the lost one: those that are found by their stamps

@@ -4,7 +4,7 @@ use mathlib.Core.Path.{_≡_}
 use mathlib.Core.Bool.{Bool, true, not, cond, _&&_}
 use mathlib.Core.List.{List}
 use lib.Dec.{ltb}
-use Rattle.units.specs.Look.{allBelow, countBelow, sumBelow}
+use Rattle.ranges.specs.Look.{allBelow, countBelow, sumBelow}
 use Rattle.layout.specs.declared.Geometry.{Geometry}
 use Rattle.layout.specs.Layout.{Layout, isNone, layoutOf}
 use Rattle.layout.specs.Page.{Page, pageAt}

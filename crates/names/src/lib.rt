@@ -1,5 +1,6 @@
 //! Which pages the records name.
 
+use bytes::number_at;
 use codec::DATA;
 use codec::NONE;
 use codec::PARITY;
@@ -7,7 +8,6 @@ use codec::Spare;
 use codec::parity_chip;
 use codec::spare_at;
 use layout::Geometry;
-use slices::number_at;
 ghost use mathlib.Core.Path.{_≡_};
 ghost use Prim.Native.Nat.{ℕ, _≤_, _<_};
 ghost use Rattle.layout.specs.Layout.{layoutOf, pages};

@@ -9,8 +9,8 @@ use lib.ListN.{length}
 use lib.Seq.{take-all}
 use lib.Dec.{lit≤, eqb}
 use borrow.Author.Tests.{eqb-true, eqb-false, ltb-true, ltb-false}
-use Rattle.units.specs.declared.Found.the-variants.{At, Nothing}
-use Rattle.units.proofs.Looks.{by-test}
+use Rattle.ranges.specs.declared.Found.the-variants.{At, Nothing}
+use Rattle.ranges.proofs.Looks.{by-test}
 use Rattle.layout.specs.declared.Geometry.{Geometry}
 use Rattle.layout.specs.Layout.{Layout, layoutOf, noChip, limits}
 use Rattle.layout.specs.Rotation.{stripeOf}
@@ -19,9 +19,9 @@ use Rattle.layout.specs.Record.{Record, hasSlot, recordAt}
 use Rattle.layout.specs.Collection.{Collection, collectionAt}
 use Rattle.layout.specs.Images.{Images, lengths}
 use Rattle.layout.proofs.Limits.{Within, within}
-use Rattle.stores.specs.declared.Counts.{Counts}
-use Rattle.stores.specs.Steps.{noCounts, made, isCut, applyAll}
-use Rattle.stores.proofs.Prefixes.{EndsIn, Every, every-nil}
+use Rattle.steps.specs.declared.Counts.{Counts}
+use Rattle.steps.specs.Steps.{noCounts, made, isCut, applyAll}
+use Rattle.steps.proofs.Prefixes.{EndsIn, Every, every-nil}
 use Rattle.rules.specs.declared.Check.{Check}
 use Rattle.rules.specs.declared.Check.the-variants.{Passed, Failed}
 use Rattle.rules.specs.declared.Reading.the-variants.{Done as ReadDone}

@@ -1,8 +1,8 @@
 -- The blocks of one chip; x gives the chip's pages.
 use Prim.Native.Nat.{ℕ, _+_, _-_}
 use mathlib.Core.Bool.{Bool, not, _||_}
-use Rattle.units.specs.declared.Found.{Found}
-use Rattle.units.specs.Look.{allBelow, firstBelow}
+use Rattle.ranges.specs.declared.Found.{Found}
+use Rattle.ranges.specs.Look.{allBelow, firstBelow}
 use Rattle.layout.specs.Layout.{Layout, pageIn}
 use Rattle.layout.specs.Page.{Page, clean}
 use Rattle.layout.specs.Record.{Record}

@@ -2,7 +2,7 @@
 use Prim.Native.Nat.{ℕ}
 use mathlib.Core.List.{List}
 use lib.ListN.{replicate}
-use Rattle.units.specs.Update.{at}
+use Rattle.ranges.specs.Update.{at}
 use Rattle.layout.specs.Layout.{Layout}
 use Rattle.rules.specs.Calls.{Call, open-call, write-call, commit-call, collect-call, query-call, Verdict, done, cut, refused}
 

@@ -4,8 +4,8 @@ use mathlib.Core.Bool.{cond}
 use mathlib.Core.List.{List}
 use Rattle.layout.specs.Layout.{Layout}
 use Rattle.layout.specs.Images.{Images}
-use Rattle.stores.specs.declared.Counts.{Counts}
-use Rattle.stores.specs.Steps.{Step, made, isCut, noCounts, countedAll, applyAll}
+use Rattle.steps.specs.declared.Counts.{Counts}
+use Rattle.steps.specs.Steps.{Step, made, isCut, noCounts, countedAll, applyAll}
 use Rattle.rules.specs.declared.Check.{Check}
 use Rattle.rules.specs.declared.Check.the-variants.{Passed, Failed}
 use Rattle.rules.specs.declared.Answer.{Answer}

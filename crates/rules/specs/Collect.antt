@@ -2,15 +2,15 @@
 use Prim.Native.Nat.{ℕ}
 use mathlib.Core.Bool.{Bool, cond, _&&_}
 use mathlib.Core.List.{List, [], _∷_, _++_}
-use Rattle.units.specs.declared.Found.{Found}
-use Rattle.units.specs.Look.{someBelow, countBelow, leastBelow, whenFound}
+use Rattle.ranges.specs.declared.Found.{Found}
+use Rattle.ranges.specs.Look.{someBelow, countBelow, leastBelow, whenFound}
 use Rattle.layout.specs.Layout.{Layout, pageIn}
 use Rattle.layout.specs.Page.{Page, pageAt}
 use Rattle.layout.specs.Record.{Record, recordAt}
 use Rattle.layout.specs.Collection.{Collection}
 use Rattle.layout.specs.Images.{Images}
-use Rattle.stores.specs.Store.{program, collection}
-use Rattle.stores.specs.Steps.{Step, plain, andThen, stepsBelow}
+use Rattle.steps.specs.Store.{program, collection}
+use Rattle.steps.specs.Steps.{Step, plain, andThen, stepsBelow}
 use Rattle.rules.specs.Blocks.{namedIn, unnamedIn, fullBlock, lowestCleanBlock}
 use Rattle.rules.specs.Open.{finishSteps}
 

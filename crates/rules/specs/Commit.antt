@@ -3,16 +3,16 @@ use Prim.Native.Nat.{ℕ, _+_, _-_, _/_}
 use mathlib.Core.Bool.{Bool, cond}
 use mathlib.Core.List.{List, [], _∷_}
 use lib.Dec.{leb}
-use Rattle.units.specs.declared.Found.{Found}
-use Rattle.units.specs.Look.{countBelow, leastBelow}
-use Rattle.units.specs.Xor.{_⊕_}
+use Rattle.ranges.specs.declared.Found.{Found}
+use Rattle.ranges.specs.Look.{countBelow, leastBelow}
+use Rattle.bytes.specs.Xor.{_⊕_}
 use Rattle.layout.specs.Layout.{Layout, none}
 use Rattle.layout.specs.Rotation.{parityChip}
 use Rattle.layout.specs.Page.{Page, pageAt, parityKind}
 use Rattle.layout.specs.Record.{Record, recordAt, bit, noSlot, slotted}
 use Rattle.layout.specs.Images.{Images, slotAt}
-use Rattle.stores.specs.Store.{program, stripe}
-use Rattle.stores.specs.Steps.{Step, plain}
+use Rattle.steps.specs.Store.{program, stripe}
+use Rattle.steps.specs.Steps.{Step, plain}
 use Rattle.rules.specs.Place.{placed}
 use Rattle.rules.specs.Gather.{bytesAt, readsAt, gathered, gatheredReads}
 

@@ -3,10 +3,10 @@ use Prim.Native.Nat.{ℕ, _*_, _≤_, _<_}
 use mathlib.Core.Path.{_≡_}
 use mathlib.Core.List.{List, [], _∷_}
 use lib.ListN.{length}
-use Rattle.units.specs.Units.{unitPut}
+use Rattle.bytes.specs.Units.{unitPut}
 use Rattle.layout.specs.Layout.{Layout, noChip, chipBytes}
 use Rattle.layout.specs.Images.{Images}
-use Rattle.stores.specs.declared.Counts.{Counts}
+use Rattle.steps.specs.declared.Counts.{Counts}
 use Rattle.rules.specs.declared.Reading.the-variants.{Done as ReadDone}
 use Rattle.rules.specs.Calls.{ReadOutcome, Call, lostChip, done, verdict, ended, formatCall, readCall}
 use Rattle.rules.specs.Book.{Book, finished, booked}

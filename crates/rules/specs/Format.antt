@@ -4,8 +4,8 @@ use mathlib.Core.List.{List, [], _∷_, _++_}
 use Rattle.layout.specs.Layout.{Layout}
 use Rattle.layout.specs.Record.{emptyRecord}
 use Rattle.layout.specs.Collection.{idle}
-use Rattle.stores.specs.Store.{erase, stripe, collection}
-use Rattle.stores.specs.Steps.{Step, plain, stepsBelow}
+use Rattle.steps.specs.Store.{erase, stripe, collection}
+use Rattle.steps.specs.Steps.{Step, plain, stepsBelow}
 
 -- "erase every block"
 abbrev pub eraseBlock : ℕ → ℕ → List Step

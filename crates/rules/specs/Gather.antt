@@ -2,8 +2,8 @@
 use Prim.Native.Nat.{ℕ}
 use mathlib.Core.Bool.{Bool, not, cond}
 use mathlib.Core.List.{List, []}
-use Rattle.units.specs.Look.{countBelow}
-use Rattle.units.specs.Xor.{xorBelow}
+use Rattle.ranges.specs.Look.{countBelow}
+use Rattle.bytes.specs.Xor.{xorBelow}
 use Rattle.layout.specs.Layout.{Layout, isNone}
 use Rattle.layout.specs.Rotation.{memberChip}
 use Rattle.layout.specs.Page.{Page}

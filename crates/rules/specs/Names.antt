@@ -2,7 +2,7 @@
 use Prim.Native.Nat.{ℕ}
 use mathlib.Core.Bool.{Bool, not, cond, _||_}
 use lib.Dec.{eqb}
-use Rattle.units.specs.Look.{someBelow}
+use Rattle.ranges.specs.Look.{someBelow}
 use Rattle.layout.specs.Layout.{Layout, none}
 use Rattle.layout.specs.Rotation.{parityChip, memberOn}
 use Rattle.layout.specs.Page.{dataKind, parityKind}

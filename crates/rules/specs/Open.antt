@@ -3,15 +3,15 @@ use Prim.Native.Nat.{ℕ}
 use mathlib.Core.Bool.{Bool, cond, _&&_}
 use mathlib.Core.List.{List, [], _∷_}
 use lib.Dec.{eqb}
-use Rattle.units.specs.Update.{at}
+use Rattle.ranges.specs.Update.{at}
 use Rattle.layout.specs.Layout.{Layout, noChip, pageIn, inBlock}
 use Rattle.layout.specs.Rotation.{parityChip, memberOn}
 use Rattle.layout.specs.Page.{Page, pageAt}
 use Rattle.layout.specs.Record.{Record, recordAt}
 use Rattle.layout.specs.Collection.{Collection, collectionAt, idle}
 use Rattle.layout.specs.Images.{Images}
-use Rattle.stores.specs.Store.{erase, stripe, collection}
-use Rattle.stores.specs.Steps.{Step, plain, andThen, thenBelow}
+use Rattle.steps.specs.Store.{erase, stripe, collection}
+use Rattle.steps.specs.Steps.{Step, plain, andThen, thenBelow}
 use Rattle.rules.specs.Names.{named}
 use Rattle.rules.specs.Sound.{twin}
 

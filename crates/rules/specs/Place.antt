@@ -3,13 +3,13 @@ use Prim.Native.Nat.{ℕ}
 use mathlib.Core.Bool.{Bool, not, cond, _&&_}
 use mathlib.Core.List.{List, []}
 use lib.Dec.{leb}
-use Rattle.units.specs.declared.Found.{Found}
-use Rattle.units.specs.declared.Found.the-variants.{At, Nothing}
-use Rattle.units.specs.Look.{countBelow, firstBelow, orElse, whenFound}
+use Rattle.ranges.specs.declared.Found.{Found}
+use Rattle.ranges.specs.declared.Found.the-variants.{At, Nothing}
+use Rattle.ranges.specs.Look.{countBelow, firstBelow, orElse, whenFound}
 use Rattle.layout.specs.Layout.{Layout, pageIn}
 use Rattle.layout.specs.Page.{Page, pageAt}
 use Rattle.layout.specs.Images.{Images}
-use Rattle.stores.specs.Steps.{Step, andThen}
+use Rattle.steps.specs.Steps.{Step, andThen}
 use Rattle.rules.specs.Blocks.{cleanIn, cleanBlock, fullBlock, lowestCleanBlock}
 use Rattle.rules.specs.Collect.{collectSteps}
 

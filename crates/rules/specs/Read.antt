@@ -4,7 +4,7 @@ use mathlib.Core.Bool.{cond, _&&_, not}
 use mathlib.Core.List.{List}
 use lib.ListN.{replicate}
 use lib.Dec.{eqb}
-use Rattle.units.specs.Xor.{_⊕_}
+use Rattle.bytes.specs.Xor.{_⊕_}
 use Rattle.layout.specs.Layout.{Layout, none, isNone}
 use Rattle.layout.specs.Rotation.{parityChip, memberChip, memberOf, stripeOf}
 use Rattle.layout.specs.Page.{Page, pageAt}

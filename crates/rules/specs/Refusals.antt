@@ -4,7 +4,7 @@ use mathlib.Core.Bool.{Bool, true, false, _||_}
 use mathlib.Core.List.{List, [], _∷_, _++_}
 use lib.ListN.{length}
 use lib.Dec.{leb, ltb, eqb}
-use Rattle.units.specs.Look.{whenFound}
+use Rattle.ranges.specs.Look.{whenFound}
 use Rattle.layout.specs.Layout.{Layout, noChip, limits}
 use Rattle.layout.specs.Page.{pageAt}
 use Rattle.layout.specs.Record.{recordAt, hasSlot}

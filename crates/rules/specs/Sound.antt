@@ -2,7 +2,7 @@
 use Prim.Native.Nat.{ℕ, _+_, _^_}
 use mathlib.Core.Bool.{Bool, not, cond, _&&_, _||_}
 use lib.Dec.{leb, ltb, eqb}
-use Rattle.units.specs.Look.{allBelow, someBelow, countBelow}
+use Rattle.ranges.specs.Look.{allBelow, someBelow, countBelow}
 use Rattle.layout.specs.Layout.{Layout, isNone, pages, pageIn}
 use Rattle.layout.specs.Page.{Page}
 use Rattle.layout.specs.Record.{Record, bit, noSlot, slotted, slotOf}

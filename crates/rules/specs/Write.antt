@@ -4,17 +4,17 @@ use mathlib.Core.Bool.{Bool, not, cond, _&&_}
 use mathlib.Core.List.{List, [], _∷_}
 use lib.Dec.{eqb}
 use lib.Bits.{bitOr}
-use Rattle.units.specs.declared.Found.{Found}
-use Rattle.units.specs.Look.{someBelow, countBelow, firstBelow, whenFound}
-use Rattle.units.specs.Update.{at}
-use Rattle.units.specs.Xor.{_⊕_}
+use Rattle.ranges.specs.declared.Found.{Found}
+use Rattle.ranges.specs.Look.{someBelow, countBelow, firstBelow, whenFound}
+use Rattle.ranges.specs.Update.{at}
+use Rattle.bytes.specs.Xor.{_⊕_}
 use Rattle.layout.specs.Layout.{Layout, none}
 use Rattle.layout.specs.Rotation.{memberChip, memberOf, stripeOf}
 use Rattle.layout.specs.Page.{Page, pageAt, dataKind}
 use Rattle.layout.specs.Record.{Record, recordAt, bit, hasSlot, slotted, slotOf}
 use Rattle.layout.specs.Images.{Images, slotAt}
-use Rattle.stores.specs.Store.{program, slot, stripe}
-use Rattle.stores.specs.Steps.{Step, plain, andThen}
+use Rattle.steps.specs.Store.{program, slot, stripe}
+use Rattle.steps.specs.Steps.{Step, plain, andThen}
 use Rattle.rules.specs.Place.{placed}
 use Rattle.rules.specs.Gather.{bytesAt, readsAt}
 use Rattle.rules.specs.Commit.{cheapest, commitSteps}

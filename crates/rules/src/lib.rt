@@ -1,6 +1,6 @@
 //! What the calls of a store answer.
 
-use stores::Counts;
+use steps::Counts;
 
 // The rows of document 01's table, "Where a call is turned back", named by its first column.
 pub enum Refusal {

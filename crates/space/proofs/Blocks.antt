@@ -7,9 +7,9 @@ use mathlib.Core.Path.{_≡_, sym, ap, _∙_}
 use mathlib.Core.Bool.{Bool, true, not, _&&_, Bool·not-not}
 use mathlib.Core.List.{List}
 use borrow.Author.Tests.{not-true}
-use Rattle.units.proofs.Looks.{at-last, by-test, both, all-true, all-at}
-use Rattle.units.proofs.Tallies.{same-tests}
-use Rattle.units.proofs.Tests.{under, false-not}
+use Rattle.ranges.proofs.Looks.{at-last, by-test, both, all-true, all-at}
+use Rattle.ranges.proofs.Tallies.{same-tests}
+use Rattle.ranges.proofs.Tests.{under, false-not}
 use Rattle.layout.specs.declared.Geometry.{Geometry}
 use Rattle.layout.specs.Layout.{Layout, layoutOf}
 use Rattle.layout.specs.Page.{Page, pageAt, clean}

@@ -6,11 +6,11 @@ use native.Mathlib.Omega.{arith}
 use mathlib.Core.Path.{_≡_, refl, sym, ap, _∙_}
 use mathlib.Core.Logic.{_≢_}
 use mathlib.Core.Bool.{true, false}
-use Rattle.units.specs.declared.Found.{Found}
-use Rattle.units.specs.declared.Found.the-variants.{At, Nothing}
-use Rattle.units.specs.Look.{countBelow, firstBelow}
-use Rattle.units.proofs.Looks.{both, not-found, first-start, first-keeps, first-here, first-not-here, first-nothing, first-is}
-use Rattle.units.proofs.Counts.{count-start, count-le, count-pass, count-fail}
+use Rattle.ranges.specs.declared.Found.{Found}
+use Rattle.ranges.specs.declared.Found.the-variants.{At, Nothing}
+use Rattle.ranges.specs.Look.{countBelow, firstBelow}
+use Rattle.ranges.proofs.Looks.{both, not-found, first-start, first-keeps, first-here, first-not-here, first-nothing, first-is}
+use Rattle.ranges.proofs.Counts.{count-start, count-le, count-pass, count-fail}
 use Rattle.layout.specs.Layout.{Layout}
 use Rattle.layout.specs.Page.{Page, clean}
 use Rattle.rules.specs.Blocks.{cleanIn, cleanBlock}

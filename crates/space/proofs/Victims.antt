@@ -7,13 +7,13 @@ use mathlib.Core.Bool.{Bool, true, _&&_}
 use mathlib.Core.List.{List}
 use lib.Dec.{ltb}
 use borrow.Author.Tests.{not-true, not-false, lt-ltb, le-ltb, ltb-true}
-use Rattle.units.specs.declared.Found.{Found}
-use Rattle.units.specs.declared.Found.the-variants.{At, Nothing}
-use Rattle.units.specs.Look.{someBelow, better, leastBelow, whenFound}
-use Rattle.units.proofs.Looks.{by-test, by-found, some-at, some-none, least-at}
-use Rattle.units.proofs.Counts.{count-cong, count-all, count-less}
-use Rattle.units.proofs.Tests.{and-both}
-use Rattle.units.proofs.Tallies.{same-tests}
+use Rattle.ranges.specs.declared.Found.{Found}
+use Rattle.ranges.specs.declared.Found.the-variants.{At, Nothing}
+use Rattle.ranges.specs.Look.{someBelow, better, leastBelow, whenFound}
+use Rattle.ranges.proofs.Looks.{by-test, by-found, some-at, some-none, least-at}
+use Rattle.ranges.proofs.Counts.{count-cong, count-all, count-less}
+use Rattle.ranges.proofs.Tests.{and-both}
+use Rattle.ranges.proofs.Tallies.{same-tests}
 use Rattle.layout.specs.declared.Geometry.{Geometry}
 use Rattle.layout.specs.Layout.{Layout, layoutOf, pageIn}
 use Rattle.layout.specs.Page.{Page, pageAt}

@@ -1,11 +1,11 @@
 //! Where a chip has room: the place of the next page, the block to collect, the block to copy to.
 
+use bytes::byte;
 use codec::page_offset;
 use layout::Geometry;
-use slices::byte;
+use ranges::Found;
 use spares::ChipScan;
 use spares::scan_chip;
-use units::Found;
 ghost use mathlib.Core.Path.{_≡_};
 ghost use Prim.Native.Nat.{_≤_, _<_};
 ghost use Rattle.layout.specs.Layout.{layoutOf, pages};

@@ -7,9 +7,9 @@ use mathlib.Core.Path.{_≡_}
 use mathlib.Core.List.{List}
 use lib.ListN.{length, getD, set}
 use lib.Seq.{getD-set-same, getD-set-other}
-use Rattle.units.specs.Number.{number}
-use Rattle.units.specs.Units.{part}
-use Rattle.units.proofs.Looks.{at-last}
+use Rattle.bytes.specs.Number.{number}
+use Rattle.bytes.specs.Units.{part}
+use Rattle.ranges.proofs.Looks.{at-last}
 use Rattle.layout.specs.declared.Geometry.{Geometry}
 use Rattle.layout.specs.Layout.{layoutOf, pages}
 use Rattle.layout.specs.Page.{pageAt}

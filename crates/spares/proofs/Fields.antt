@@ -8,9 +8,9 @@ use mathlib.Core.List.{List}
 use lib.ListN.{getD}
 use lib.Dec.{eqb, ltb}
 use borrow.Author.Tests.{eq-eqb, ne-eqb, eqb-true, ltb-true, lt-ltb, le-ltb}
-use Rattle.units.proofs.Looks.{by-test, by-same, by-order}
-use Rattle.units.proofs.Tests.{and-both, both-and}
-use Rattle.units.proofs.Tallies.{same-tests}
+use Rattle.ranges.proofs.Looks.{by-test, by-same, by-order}
+use Rattle.ranges.proofs.Tests.{and-both, both-and}
+use Rattle.ranges.proofs.Tallies.{same-tests}
 use Rattle.layout.specs.declared.Geometry.{Geometry}
 use Rattle.layout.specs.Layout.{Layout, layoutOf, limits, none}
 use Rattle.layout.specs.Rotation.{parityChip, memberOn}

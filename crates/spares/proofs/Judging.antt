@@ -8,10 +8,10 @@ use mathlib.Core.Bool.{Bool, true, false, not, cond, _&&_, _||_, and-true, and-f
 use mathlib.Core.List.{List}
 use lib.Dec.{eqb}
 use borrow.Author.Tests.{eq-eqb, ne-eqb}
-use Rattle.units.specs.Look.{allBelow, someBelow, countBelow, sumBelow}
-use Rattle.units.proofs.Looks.{by-same, all-true, all-at, all-cong, all-both}
-use Rattle.units.proofs.Counts.{count-le}
-use Rattle.units.proofs.Tests.{or-else}
+use Rattle.ranges.specs.Look.{allBelow, someBelow, countBelow, sumBelow}
+use Rattle.ranges.proofs.Looks.{by-same, all-true, all-at, all-cong, all-both}
+use Rattle.ranges.proofs.Counts.{count-le}
+use Rattle.ranges.proofs.Tests.{or-else}
 use Rattle.layout.specs.declared.Geometry.{Geometry}
 use Rattle.layout.specs.Layout.{Layout, layoutOf, pages}
 use Rattle.layout.specs.Page.{Page, pageAt}
@@ -26,7 +26,7 @@ use Rattle.codec.specs.declared.CollectionRecord.{CollectionRecord}
 use Rattle.codec.specs.Fit.{ChipsFit}
 use Rattle.codec.specs.Views.{CollectionIs}
 use Rattle.names.specs.Stamps.{byStamp, StampsPass}
-use Rattle.units.proofs.Tallies.{same-tests}
+use Rattle.ranges.proofs.Tallies.{same-tests}
 use Rattle.spares.specs.declared.ChipScan.{ChipScan}
 use Rattle.names.specs.Checked.{RecordsPass}
 use Rattle.spares.specs.Scans.{chipScan, phaseSound}

@@ -11,12 +11,12 @@ use lib.ListN.{length, getD, set, replicate, length-set, getD-replicate}
 use lib.Seq.{getD-set-same, getD-set-other, ext-getD}
 use lib.Dec.{eqb, ltb}
 use borrow.Author.Tests.{eq-eqb, ne-eqb, lt-ltb, le-ltb, ltb-true, ltb-false}
-use Rattle.units.specs.declared.Found.{Found}
-use Rattle.units.specs.declared.Found.the-variants.{At}
-use Rattle.units.specs.Look.{allBelow, someBelow, countBelow, leastBelow, whenFound}
-use Rattle.units.proofs.Counts.{count-start, count-le}
-use Rattle.units.proofs.Looks.{at-last, by-test, by-order, by-found, both, all-cong, least-start, least-skips, least-here, least-better, least-keeps, least-at}
-use Rattle.units.proofs.Tests.{and-both, both-and, or-right, cond-same}
+use Rattle.ranges.specs.declared.Found.{Found}
+use Rattle.ranges.specs.declared.Found.the-variants.{At}
+use Rattle.ranges.specs.Look.{allBelow, someBelow, countBelow, leastBelow, whenFound}
+use Rattle.ranges.proofs.Counts.{count-start, count-le}
+use Rattle.ranges.proofs.Looks.{at-last, by-test, by-order, by-found, both, all-cong, least-start, least-skips, least-here, least-better, least-keeps, least-at}
+use Rattle.ranges.proofs.Tests.{and-both, both-and, or-right, cond-same}
 use Rattle.layout.specs.declared.Geometry.{Geometry}
 use Rattle.layout.specs.Layout.{Layout, layoutOf, limits, none, pages}
 use Rattle.layout.specs.Page.{Page}
@@ -29,7 +29,7 @@ use Rattle.rules.specs.Sound.{twin}
 use Rattle.codec.specs.declared.Spare.{Spare}
 use Rattle.codec.specs.Views.{spareOf}
 use Rattle.names.specs.Stamps.{byStamp}
-use Rattle.units.proofs.Tallies.{count-from}
+use Rattle.ranges.proofs.Tallies.{count-from}
 use Rattle.spares.specs.declared.Scan.{Scan}
 use Rattle.spares.specs.declared.ChipScan.{ChipScan}
 use Rattle.spares.specs.declared.Fill.{Fill}

@@ -6,9 +6,9 @@ use mathlib.Core.List.{List, [], _∷_, map}
 use mathlib.Core.Logic.{_≢_}
 use lib.ListN.{getD}
 use lib.Dec.{eqb, ltb}
-use Rattle.units.specs.Number.{number}
-use Rattle.units.specs.Units.{part}
-use Rattle.units.specs.Look.{allBelow, someBelow, countBelow, leastBelow, whenFound}
+use Rattle.bytes.specs.Number.{number}
+use Rattle.bytes.specs.Units.{part}
+use Rattle.ranges.specs.Look.{allBelow, someBelow, countBelow, leastBelow, whenFound}
 use Rattle.layout.specs.Layout.{Layout, pageIn}
 use Rattle.layout.specs.Page.{Page}
 use Rattle.layout.specs.Record.{Record}

@@ -1,5 +1,7 @@
 //! The checks of the spare bytes.
 
+use bytes::byte;
+use bytes::number_at;
 use codec::CollectionRecord;
 use codec::DATA;
 use codec::PARITY;
@@ -8,8 +10,6 @@ use codec::spare_at;
 use layout::Geometry;
 use names::named_at;
 use names::names_on;
-use slices::byte;
-use slices::number_at;
 ghost use mathlib.Core.Path.{_≡_};
 ghost use mathlib.Core.Bool.{true};
 ghost use mathlib.Core.List.{List};
@@ -17,7 +17,7 @@ ghost use Prim.Native.Nat.{ℕ, _+_, _*_, _%_, _≤_, _<_};
 ghost use mathlib.Core.Logic.{_≢_};
 ghost use lib.ListN.{length, getD};
 ghost use lib.Dec.{eqb};
-ghost use Rattle.units.specs.Look.{countBelow};
+ghost use Rattle.ranges.specs.Look.{countBelow};
 ghost use Rattle.layout.specs.Layout.{layoutOf, limits, pages};
 ghost use Rattle.layout.specs.Page.{Page, pageAt};
 ghost use Rattle.layout.specs.Record.{Record, recordAt};

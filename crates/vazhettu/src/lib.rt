@@ -8,7 +8,7 @@ use rules::Answer;
 use rules::Reading;
 ghost use mathlib.Core.Path.{_≡_};
 ghost use Rattle.layout.specs.Layout.{layoutOf};
-ghost use Rattle.stores.specs.Allowance.{images};
+ghost use Rattle.steps.specs.Allowance.{images};
 ghost use Rattle.rules.specs.Calls.{formatCall, openCall, writeCall, commitCall, collectCall, readCall};
 ghost use Rattle.vazhettu.specs.Reports.{reported, readReported, Reported, reportedOf, ReadReported, readReportedOf};
 
@@ -33,7 +33,7 @@ fn read_report_of(a: Reading) -> Report
     }
 }
 
-// See store::format.
+// See calls::format.
 #[no_mangle]
 pub extern "C" fn vazhettu_format(
     g: Geometry,
@@ -46,10 +46,10 @@ pub extern "C" fn vazhettu_format(
         (record { report = r; images = images (now (chips .exit)) (now (records .exit)) (now (slots .entry)) })
         (reportedOf (formatCall (layoutOf g) (images (now (chips .entry)) (now (records .entry)) (now (slots .entry))) allowance)) ⌝ }
 {
-    report_of(store::format(g, chips, records, slots, allowance))
+    report_of(calls::format(g, chips, records, slots, allowance))
 }
 
-// See store::open.
+// See calls::open.
 #[no_mangle]
 pub extern "C" fn vazhettu_open(
     g: Geometry,
@@ -63,10 +63,10 @@ pub extern "C" fn vazhettu_open(
         (record { report = r; images = images (now (chips .exit)) (now (records .exit)) (now (slots .entry)) })
         (reportedOf (openCall (layoutOf g) (images (now (chips .entry)) (now (records .entry)) (now (slots .entry))) lost allowance)) ⌝ }
 {
-    report_of(store::open(g, chips, records, slots, lost, allowance))
+    report_of(calls::open(g, chips, records, slots, lost, allowance))
 }
 
-// See store::read.
+// See calls::read.
 #[no_mangle]
 pub extern "C" fn vazhettu_read(
     g: Geometry,
@@ -81,10 +81,10 @@ pub extern "C" fn vazhettu_read(
         (record { report = r; buffer = now (buffer .exit) })
         (readReportedOf (readCall (layoutOf g) (images (now (chips .entry)) (now (records .entry)) (now (slots .entry))) lost page (now (buffer .entry)))) ⌝ }
 {
-    read_report_of(store::read(g, chips, records, slots, lost, page, buffer))
+    read_report_of(calls::read(g, chips, records, slots, lost, page, buffer))
 }
 
-// See store::write.
+// See calls::write.
 #[no_mangle]
 pub extern "C" fn vazhettu_write(
     g: Geometry,
@@ -100,10 +100,10 @@ pub extern "C" fn vazhettu_write(
         (record { report = r; images = images (now (chips .exit)) (now (records .exit)) (now (slots .exit)) })
         (reportedOf (writeCall (layoutOf g) (images (now (chips .entry)) (now (records .entry)) (now (slots .entry))) lost page (now (bytes .entry)) allowance)) ⌝ }
 {
-    report_of(store::write(g, chips, records, slots, lost, page, bytes, allowance))
+    report_of(calls::write(g, chips, records, slots, lost, page, bytes, allowance))
 }
 
-// See store::commit.
+// See calls::commit.
 #[no_mangle]
 pub extern "C" fn vazhettu_commit(
     g: Geometry,
@@ -118,10 +118,10 @@ pub extern "C" fn vazhettu_commit(
         (record { report = r; images = images (now (chips .exit)) (now (records .exit)) (now (slots .entry)) })
         (reportedOf (commitCall (layoutOf g) (images (now (chips .entry)) (now (records .entry)) (now (slots .entry))) lost stripe allowance)) ⌝ }
 {
-    report_of(store::commit(g, chips, records, slots, lost, stripe, allowance))
+    report_of(calls::commit(g, chips, records, slots, lost, stripe, allowance))
 }
 
-// See store::collect.
+// See calls::collect.
 #[no_mangle]
 pub extern "C" fn vazhettu_collect(
     g: Geometry,
@@ -136,5 +136,5 @@ pub extern "C" fn vazhettu_collect(
         (record { report = r; images = images (now (chips .exit)) (now (records .exit)) (now (slots .entry)) })
         (reportedOf (collectCall (layoutOf g) (images (now (chips .entry)) (now (records .entry)) (now (slots .entry))) lost chip allowance)) ⌝ }
 {
-    report_of(store::collect(g, chips, records, slots, lost, chip, allowance))
+    report_of(calls::collect(g, chips, records, slots, lost, chip, allowance))
 }

@@ -1,4 +1,1 @@
-pub mod Slots
-pub mod Partials
-pub mod Writing
-pub mod Steps
+pub mod Owing

@@ -1,37 +1,34 @@
-//! What a write stores at its place: the page, the new partial parity in a free slot, the record; and whether it owes a commit.
+//! A write as a whole: the commit that may be owed, room on the member's chip, the place, and what is stored there.
 
-use codec::DATA;
-use codec::NONE;
-use codec::Spare;
-use codec::StripeRecord;
-use codec::bit_of;
 use codec::member_chip;
-use codec::page_data;
-use codec::record_at;
 use codec::slot_at;
-use codec::slot_data;
-use device::program;
-use device::store_record;
-use device::store_slot;
+use collect::make_room;
+use commit::commit_stripe;
 use layout::Geometry;
-use slices::copy;
-use slices::xor_into;
-use stores::Progress;
-use units::Found;
+use partial::write_at;
+use ranges::Found;
+use records::SlotScan;
+use space::place_on;
+use space::victim_in;
+use space::victim_on;
+use spares::ChipScan;
+use steps::Progress;
 ghost use mathlib.Core.Path.{_≡_};
-ghost use mathlib.Core.Bool.{true};
-ghost use Prim.Native.Nat.{_≤_, _<_};
+ghost use mathlib.Core.Bool.{true, false};
+ghost use Prim.Native.Nat.{_<_};
 ghost use lib.ListN.{length};
-ghost use Rattle.units.specs.Look.{countBelow};
-ghost use Rattle.layout.specs.Layout.{layoutOf, pages};
-ghost use Rattle.layout.specs.Page.{pageAt};
+ghost use Rattle.ranges.specs.Look.{countBelow};
+ghost use Rattle.layout.specs.Layout.{layoutOf};
+ghost use Rattle.layout.specs.Rotation.{memberChip};
 ghost use Rattle.layout.specs.Record.{recordAt, slotted as slottedAt};
-ghost use Rattle.layout.specs.Images.{slotAt};
-ghost use Rattle.rules.specs.Sound.{recordSound};
-ghost use Rattle.rules.specs.Write.{commitOwed, lowestFreeSlot, newPartial, newPartialReads, written as writtenRecord, slotSteps, writeAt};
-ghost use Rattle.stores.specs.Allowance.{Sane, Ran, images};
-ghost use Rattle.codec.specs.Fit.{ChipsFit, RecordsFit, SlotsFit};
-ghost use Rattle.codec.specs.Views.{recordFrom, SmallRecord};
+ghost use Rattle.rules.specs.Place.{placed};
+ghost use Rattle.rules.specs.Write.{commitOwed, owedSteps, lowestFreeSlot, writeAt, writeMember};
+ghost use Rattle.steps.specs.Allowance.{Sane, Ran, images};
+ghost use Rattle.codec.specs.Fit.{RecordsFit, SlotsFit};
+ghost use Rattle.names.specs.Checked.{Settled};
+ghost use Rattle.records.specs.Slots.{slotScan};
+ghost use Rattle.space.specs.Victims.{VictimFor, Victims};
+ghost use Rattle.write.specs.Slots.{lowerOf};
 
 // Whether stripe j has no slot and M records have; slotted is how many have one.
 pub fn is_owed(records: &[u8], g: Geometry, j: usize, slotted: usize) -> bool
@@ -41,87 +38,58 @@ pub fn is_owed(records: &[u8], g: Geometry, j: usize, slotted: usize) -> bool
     (slot_at(records, g, j) == 255) & (slotted == g.m as usize)
 }
 
-// Work becomes the new partial parity of stripe j with the data of member m, and the answer is how many pages were read for it.
-fn new_partial(
-    work: &mut [u8],
-    chips: &[u8],
+// The lower of the free slot, if any, and slot t.
+fn lower(free: Found, t: usize) -> Found
+    ensures { λ r. ⌜ r ≡ lowerOf free t ⌝ }
+{
+    match free {
+        Found::At(i) => if i < t { Found::At(i) } else { Found::At(t) },
+        Found::Nothing => Found::At(t),
+    }
+}
+
+// What the commit leaves that is owed before a write.
+struct Owed {
+    run: Progress,
+    // the lowest free slot, where the run is not cut
+    free: Found,
+}
+
+// Commits the stripe of least cost, which is owed for a write to stripe j. Its slot is free then.
+fn commit_owed(
+    chips: &mut [u8],
+    records: &mut [u8],
     slots: &[u8],
     g: Geometry,
     j: usize,
-    m: usize,
-    bytes: &[u8],
-    e: StripeRecord,
-) -> u64
-    requires { ⌜ ChipsFit g (now chips) × SlotsFit g (now slots) × (length (now work) ≡ g .w) × (length (now bytes) ≡ g .w) × (m < g .n)
-        × (recordSound (layoutOf g) (recordFrom (layoutOf g) e) ≡ true) ⌝ }
-    ensures { λ r. ⌜ (now (work .exit) ≡ newPartial (layoutOf g) (pageAt (layoutOf g) (now (chips .entry))) (slotAt (layoutOf g) (now (slots .entry))) j m (now (bytes .entry)) (recordFrom (layoutOf g) e))
-        × (r ≡ newPartialReads (layoutOf g) m (recordFrom (layoutOf g) e)) × (r ≤ 8) ⌝ }
-{
-    if e.slot == 255 {
-        copy(work, bytes);
-        return 0;
-    }
-    copy(work, slot_data(slots, g, e.slot));
-    let mut reads = 0;
-    if bit_of(e.bitmap, m) {
-        let current = e.current;
-        xor_into(work, page_data(chips, g, member_chip(g, j, m), current[m]));
-        reads = 1;
-    }
-    xor_into(work, bytes);
-    reads
-}
-
-// The record with page q as the current page of member m, in the partial parity of slot i.
-fn written(e: StripeRecord, m: usize, q: usize, i: usize) -> StripeRecord
-    requires { ⌜ SmallRecord e × (m < 6) × (q < 65536) × (i < 256) ⌝ }
-    ensures { λ r. ⌜ ((g : Geometry) → recordFrom (layoutOf g) r ≡ writtenRecord (layoutOf g) m q i (recordFrom (layoutOf g) e)) × SmallRecord r ⌝ }
-{
-    let mut next = e;
-    if !bit_of(e.bitmap, m) {
-        next.old[m] = e.current[m];
-    }
-    next.current[m] = q;
-    next.bitmap = e.bitmap | (1 << m);
-    next.slot = i;
-    next.rest = 0;
-    next
-}
-
-// Stores the new partial parity in the lowest free slot, and the record of stripe j, for a page that stands at q.
-fn store_partial(
-    chips: &[u8],
-    records: &mut [u8],
-    slots: &mut [u8],
-    g: Geometry,
-    j: usize,
-    m: usize,
-    bytes: &[u8],
-    q: usize,
-    free: Found,
+    scans: [ChipScan; 7],
+    seen: SlotScan,
     p: Progress,
-) -> Progress
-    requires { ⌜ ChipsFit g (now chips) × RecordsFit g (now records) × SlotsFit g (now slots) × (j < g .s) × (m < g .n) × (length (now bytes) ≡ g .w)
-        × (q < pages (layoutOf g)) × (recordSound (layoutOf g) (recordAt (layoutOf g) (now records) j) ≡ true) × Sane p
-        × (free ≡ lowestFreeSlot (layoutOf g) (recordAt (layoutOf g) (now records))) ⌝ }
-    ensures { λ r. ⌜ Ran (layoutOf g) p (slotSteps (layoutOf g) j m (now (bytes .entry)) q (images (now (chips .entry)) (now (records .entry)) (now (slots .entry))))
-        r (images (now (chips .entry)) (now (records .entry)) (now (slots .entry))) (images (now (chips .entry)) (now (records .exit)) (now (slots .exit))) ⌝ }
+) -> Owed
+    requires { ⌜ Settled g (now chips) (now records) × SlotsFit g (now slots) × Sane p
+        × (commitOwed (layoutOf g) (recordAt (layoutOf g) (now records)) j ≡ true) × Victims g (now chips) (now records) scans
+        × (seen ≡ slotScan (layoutOf g) (recordAt (layoutOf g) (now records))) ⌝ }
+    ensures { λ r. ⌜ Ran (layoutOf g) p (owedSteps (layoutOf g) j (images (now (chips .entry)) (now (records .entry)) (now (slots .entry))))
+        (r .run) (images (now (chips .entry)) (now (records .entry)) (now (slots .entry))) (images (now (chips .exit)) (now (records .exit)) (now (slots .entry)))
+        × (r .run .cut ≡ false → r .free ≡ lowestFreeSlot (layoutOf g) (recordAt (layoutOf g) (now (records .exit)))) ⌝ }
 {
-    match free {
-        Found::At(i) => {
-            let mut work = [0u8; 4096];
-            let w = g.w as usize;
-            let e = record_at(records, g, j);
-            let reads = new_partial(&mut work[0..w], chips, slots, g, j, m, bytes, e);
-            let run = store_slot(slots, g, i, &work[0..w], reads, p);
-            store_record(records, g, j, written(e, m, q, i), run)
+    let cheapest = seen.cheapest;
+    let free = seen.free;
+    match cheapest {
+        Found::At(k) => {
+            let t = slot_at(records, g, k);
+            let run = commit_stripe(chips, records, slots, g, k, scans, p);
+            Owed {
+                run,
+                free: lower(free, t),
+            }
         }
-        Found::Nothing => p,
+        Found::Nothing => Owed { run: p, free },
     }
 }
 
-// Writes member m of stripe j at page q of its chip; free is the lowest free slot.
-pub fn write_at(
+// Finds a place for member m of stripe j and writes it there; v is the victim of its chip, and free the lowest free slot.
+fn place_member(
     chips: &mut [u8],
     records: &mut [u8],
     slots: &mut [u8],
@@ -129,22 +97,62 @@ pub fn write_at(
     j: usize,
     m: usize,
     bytes: &[u8],
-    q: usize,
+    v: Found,
     free: Found,
     p: Progress,
 ) -> Progress
-    requires { ⌜ ChipsFit g (now chips) × RecordsFit g (now records) × SlotsFit g (now slots) × (j < g .s) × (m < g .n) × (length (now bytes) ≡ g .w)
-        × (q < pages (layoutOf g)) × (recordSound (layoutOf g) (recordAt (layoutOf g) (now records) j) ≡ true) × Sane p
+    requires { ⌜ Settled g (now chips) (now records) × SlotsFit g (now slots) × (j < g .s) × (m < g .n) × (length (now bytes) ≡ g .w) × Sane p
+        × VictimFor g (now chips) (now records) (memberChip (layoutOf g) j m) v
         × (free ≡ lowestFreeSlot (layoutOf g) (recordAt (layoutOf g) (now records))) ⌝ }
-    ensures { λ r. ⌜ Ran (layoutOf g) p (writeAt (layoutOf g) j m (now (bytes .entry)) q (images (now (chips .entry)) (now (records .entry)) (now (slots .entry))))
+    ensures { λ r. ⌜ Ran (layoutOf g) p
+        (placed (layoutOf g) (memberChip (layoutOf g) j m) (writeAt (layoutOf g) j m (now (bytes .entry))) (images (now (chips .entry)) (now (records .entry)) (now (slots .entry))))
         r (images (now (chips .entry)) (now (records .entry)) (now (slots .entry))) (images (now (chips .exit)) (now (records .exit)) (now (slots .exit))) ⌝ }
 {
-    let spare = Spare {
-        kind: DATA,
-        member: m,
-        stripe: j,
-        copied: NONE,
-    };
-    let run = program(chips, g, member_chip(g, j, m), q, bytes, spare, 0, p);
-    store_partial(chips, records, slots, g, j, m, bytes, q, free, run)
+    let c = member_chip(g, j, m);
+    let run = make_room(chips, records, g, c, v, p);
+    // past a cut there may be no place yet
+    if run.cut {
+        return run;
+    }
+    match place_on(chips, g, c) {
+        Found::At(q) => write_at(chips, records, slots, g, j, m, bytes, q, free, run),
+        Found::Nothing => run,
+    }
+}
+
+// Writes member m of stripe j, where the victim of each chip is known, and what the records tell of the slots.
+pub fn write_member(
+    chips: &mut [u8],
+    records: &mut [u8],
+    slots: &mut [u8],
+    g: Geometry,
+    j: usize,
+    m: usize,
+    bytes: &[u8],
+    scans: [ChipScan; 7],
+    seen: SlotScan,
+    p: Progress,
+) -> Progress
+    requires { ⌜ Settled g (now chips) (now records) × SlotsFit g (now slots) × (j < g .s) × (m < g .n) × (length (now bytes) ≡ g .w) × Sane p
+        × Victims g (now chips) (now records) scans × (seen ≡ slotScan (layoutOf g) (recordAt (layoutOf g) (now records))) ⌝ }
+    ensures { λ r. ⌜ Ran (layoutOf g) p
+        (writeMember (layoutOf g) j m (now (bytes .entry)) (images (now (chips .entry)) (now (records .entry)) (now (slots .entry))))
+        r (images (now (chips .entry)) (now (records .entry)) (now (slots .entry))) (images (now (chips .exit)) (now (records .exit)) (now (slots .exit))) ⌝ }
+{
+    let chip = member_chip(g, j, m);
+    if !is_owed(records, g, j, seen.slotted) {
+        let v = victim_in(g, scans[chip]);
+        let free = seen.free;
+        return place_member(chips, records, slots, g, j, m, bytes, v, free, p);
+    }
+    let owed = commit_owed(chips, records, slots, g, j, scans, seen, p);
+    let run = owed.run;
+    // past a cut no store is made, and the images are not those that the next part is worked out from
+    if run.cut {
+        return run;
+    }
+    // a commit changes what the records name, and so the victims
+    let v = victim_on(chips, records, g, chip);
+    let free = owed.free;
+    place_member(chips, records, slots, g, j, m, bytes, v, free, run)
 }

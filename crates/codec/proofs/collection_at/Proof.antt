@@ -1,7 +1,7 @@
 -- The collection record is the 32 bytes behind the S records, so every read is inside, and the bytes and numbers read are its own.
 use native.Mathlib.Nat.{add-zero}
 use native.Mathlib.Omega.{arith}
-use Rattle.units.proofs.Units.{getD-unit, part-unit}
+use Rattle.bytes.proofs.Units.{getD-unit, part-unit}
 use Rattle.layout.specs.Collection.{collectionOf, collectionAt}
 use Rattle.layout.specs.Images.{recordsLength}
 use Rattle.codec.proofs.collection_at.Statement.{statement}

@@ -3,7 +3,7 @@ use native.Mathlib.Nat.{mod-eq-of-lt}
 use mathlib.Core.List.{_∷_}
 use lib.ListN.{replicate}
 use borrow.Author.Needs.{needs}
-use Rattle.units.specs.Number.{digits}
+use Rattle.bytes.specs.Number.{digits}
 use Rattle.layout.specs.Collection.{bytesOfCollection}
 use Rattle.codec.proofs.collection_bytes.Statement.{statement}
 use Rattle.codec.proofs.collection_bytes.Tie as tie

@@ -1,8 +1,8 @@
 -- The part that is looked at is the collection record from its byte 6 on.
 use native.Mathlib.Nat.{add-sub-cancel-left}
 use native.Mathlib.Omega.{arith}
-use Rattle.units.specs.Units.{part}
-use Rattle.units.proofs.Units.{part-unit}
+use Rattle.bytes.specs.Units.{part}
+use Rattle.bytes.proofs.Units.{part-unit}
 use Rattle.layout.specs.Collection.{collectionOf, collectionAt}
 use Rattle.layout.specs.Images.{recordsLength}
 use Rattle.codec.proofs.collection_ends.Statement.{statement}

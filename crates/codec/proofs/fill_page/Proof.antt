@@ -1,7 +1,7 @@
 -- The two copies fill the page with the data and the spare bytes.
 use native.Mathlib.Nat.{add-sub-cancel-left, sub-zero}
 use borrow.Author.Needs.{needs}
-use Rattle.units.specs.Units.{put}
+use Rattle.bytes.specs.Units.{put}
 use Rattle.codec.proofs.Offsets.{page-filled}
 use Rattle.codec.proofs.fill_page.Statement.{statement}
 use Rattle.codec.proofs.fill_page.Tie as tie

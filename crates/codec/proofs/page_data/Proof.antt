@@ -2,8 +2,8 @@
 use native.Mathlib.Omega.{arith}
 use native.Mathlib.Nat.{add-sub-cancel-left}
 use borrow.Author.Needs.{needs}
-use Rattle.units.specs.Units.{part}
-use Rattle.units.proofs.Units.{length-part}
+use Rattle.bytes.specs.Units.{part}
+use Rattle.bytes.proofs.Units.{length-part}
 use Rattle.codec.proofs.Offsets.{page-in}
 use Rattle.codec.proofs.page_data.Statement.{statement}
 use Rattle.codec.proofs.page_data.Tie as tie

@@ -2,7 +2,7 @@
 use native.Mathlib.Nat.{mod-eq-of-lt, div-div-eq-div-mul}
 use native.Mathlib.Omega.{arith}
 use mathlib.Core.List.{[], _∷_}
-use Rattle.units.specs.Number.{digits}
+use Rattle.bytes.specs.Number.{digits}
 use Rattle.layout.specs.Record.{row, bytesOfRecord}
 use Rattle.codec.specs.Views.{sixOf, recordFrom}
 use Rattle.codec.proofs.record_bytes.Statement.{statement}

@@ -5,8 +5,8 @@ use native.Mathlib.Nat.{add-sub-cancel-left}
 use mathlib.Core.Path.{refl}
 use lib.ListN.{length}
 use borrow.Author.Needs.{needs}
-use Rattle.units.specs.Units.{part, unit}
-use Rattle.units.proofs.Units.{length-part}
+use Rattle.bytes.specs.Units.{part, unit}
+use Rattle.bytes.proofs.Units.{length-part}
 use Rattle.layout.specs.Images.{slotAt}
 use Rattle.codec.proofs.Offsets.{slot-within}
 use Rattle.codec.proofs.slot_data.Statement.{statement}

@@ -3,8 +3,8 @@ use mathlib.Core.Path.{sym, _∙_}
 use denote.Ref.{now}
 use borrow.Author.Needs.{needs}
 use Rattle.layout.specs.Layout.{layoutOf}
-use Rattle.stores.specs.Allowance.{images}
-use Rattle.stores.proofs.Allowances.{ran-none}
+use Rattle.steps.specs.Allowance.{images}
+use Rattle.steps.proofs.Allowances.{ran-none}
 use Rattle.names.proofs.Statements.{some-slots}
 use Rattle.collect.proofs.Rooms.{ordered, copied-checked, collect-cut, collect-ran, collect-nowhere}
 use Rattle.collect.proofs.collect_chip.Statement.{statement}

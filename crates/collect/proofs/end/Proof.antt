@@ -4,8 +4,8 @@ use mathlib.Core.List.{[]}
 use borrow.Author.Needs.{needs}
 use denote.Ref.{now}
 use Rattle.layout.specs.Layout.{layoutOf}
-use Rattle.stores.specs.Allowance.{images}
-use Rattle.stores.proofs.Allowances.{ran-append}
+use Rattle.steps.specs.Allowance.{images}
+use Rattle.steps.proofs.Allowances.{ran-append}
 use Rattle.collect.proofs.end.Statement.{statement}
 use Rattle.collect.proofs.end.Tie as tie
 

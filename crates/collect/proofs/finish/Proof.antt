@@ -6,9 +6,9 @@ use denote.Ref.{now}
 use borrow.Author.Needs.{needs}
 use Rattle.layout.specs.Layout.{layoutOf}
 use Rattle.layout.specs.Collection.{collectionAt}
-use Rattle.stores.specs.Steps.{thenBelow}
-use Rattle.stores.specs.Allowance.{images}
-use Rattle.stores.proofs.Allowances.{ran-none, ran-then}
+use Rattle.steps.specs.Steps.{thenBelow}
+use Rattle.steps.specs.Allowance.{images}
+use Rattle.steps.proofs.Allowances.{ran-none, ran-then}
 use Rattle.rules.specs.Open.{ending, moveSteps}
 use Rattle.collect.proofs.Underway.{Working, working}
 use Rattle.names.proofs.Statements.{some-slots}

@@ -4,7 +4,7 @@ use Prim.Native.Nat.{_+_, _*_, _<_}
 use native.Mathlib.Omega.{arith}
 use denote.Ref.{now}
 use borrow.Author.Needs.{needs}
-use Rattle.units.proofs.Units.{apart}
+use Rattle.bytes.proofs.Units.{apart}
 use Rattle.layout.specs.Layout.{layoutOf, pages}
 use Rattle.layout.specs.Page.{pageAt}
 use Rattle.layout.specs.Record.{recordAt}

@@ -8,8 +8,8 @@ use borrow.Author.Needs.{needs}
 use borrow.Author.Tests.{not-true, not-false}
 use Rattle.layout.specs.Layout.{layoutOf, pages}
 use Rattle.rules.specs.Open.{repointed}
-use Rattle.stores.specs.Allowance.{images}
-use Rattle.stores.proofs.Allowances.{ran-none}
+use Rattle.steps.specs.Allowance.{images}
+use Rattle.steps.proofs.Allowances.{ran-none}
 use Rattle.collect.proofs.Underway.{Working}
 use Rattle.collect.proofs.Dues.{pages-small}
 use Rattle.collect.proofs.Moves.{under-way, page-fits, no-move, due-stripe, one-move}

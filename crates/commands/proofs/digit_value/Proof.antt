@@ -2,7 +2,7 @@
 use lib.Dec.{leb}
 use borrow.Author.Tests.{leb-true}
 use borrow.Author.Needs.{needs}
-use Rattle.units.proofs.Tests.{and-both}
+use Rattle.ranges.proofs.Tests.{and-both}
 use Rattle.commands.specs.Parsing.{digitValue}
 use Rattle.commands.proofs.digit_value.Statement.{statement}
 use Rattle.commands.proofs.digit_value.Tie as tie

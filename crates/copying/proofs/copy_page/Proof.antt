@@ -10,7 +10,7 @@ use Rattle.layout.specs.Layout.{layoutOf, none}
 use Rattle.layout.specs.Page.{pageAt}
 use Rattle.layout.proofs.Limits.{within}
 use Rattle.copying.proofs.Copies.{copy-ran}
-use Rattle.slices.proofs.Work.{front-back}
+use Rattle.bytes.proofs.Work.{front-back}
 use Rattle.copying.proofs.copy_page.Statement.{statement}
 use Rattle.copying.proofs.copy_page.Tie as tie
 

@@ -4,9 +4,9 @@ use native.Mathlib.Omega.{arith}
 use native.Mathlib.Numerals.{add-one}
 use mathlib.Core.Path.{_≡_, sym, _∙_}
 use mathlib.Core.Logic.{⊎-elim}
-use Rattle.units.specs.Look.{countBelow}
-use Rattle.units.proofs.Counts.{count-start, count-le, count-cong}
-use Rattle.units.proofs.Tallies.{count-more}
+use Rattle.ranges.specs.Look.{countBelow}
+use Rattle.ranges.proofs.Counts.{count-start, count-le, count-cong}
+use Rattle.ranges.proofs.Tallies.{count-more}
 use Rattle.layout.specs.Layout.{layoutOf}
 use Rattle.layout.specs.Record.{bit}
 use Rattle.rules.specs.Commit.{setBits}

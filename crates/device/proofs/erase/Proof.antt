@@ -2,10 +2,10 @@
 use native.Mathlib.Nat.{add-sub-cancel-left}
 use native.Mathlib.Omega.{arith}
 use borrow.Author.Needs.{needs}
-use Rattle.units.specs.Units.{part, put}
+use Rattle.bytes.specs.Units.{part, put}
 use Rattle.layout.specs.Layout.{layoutOf}
-use Rattle.stores.specs.Store.{apply, erased}
-use Rattle.stores.proofs.Allowances.{ran-stop, ran-one}
+use Rattle.steps.specs.Store.{apply, erased}
+use Rattle.steps.proofs.Allowances.{ran-stop, ran-one}
 use Rattle.device.proofs.Places.{BlockIn, block-in}
 use Rattle.device.proofs.erase.Statement.{statement}
 use Rattle.device.proofs.erase.Tie as tie

@@ -2,10 +2,10 @@
 use native.Mathlib.Nat.{add-sub-cancel-left}
 use native.Mathlib.Omega.{arith}
 use borrow.Author.Needs.{needs}
-use Rattle.units.specs.Units.{put, unitPut}
+use Rattle.bytes.specs.Units.{put, unitPut}
 use Rattle.layout.specs.Layout.{layoutOf}
-use Rattle.stores.specs.Store.{apply, programmed}
-use Rattle.stores.proofs.Allowances.{ran-stop, ran-one}
+use Rattle.steps.specs.Store.{apply, programmed}
+use Rattle.steps.proofs.Allowances.{ran-stop, ran-one}
 use Rattle.device.proofs.program.Statement.{statement}
 use Rattle.device.proofs.program.Tie as tie
 

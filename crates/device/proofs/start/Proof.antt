@@ -4,8 +4,8 @@ use native.Mathlib.Nat.{min-eq-left, min-eq-right}
 use native.Mathlib.Omega.{arith}
 use mathlib.Core.Path.{ap, sym}
 use mathlib.Core.Bool.{false≢true}
-use Rattle.stores.specs.Steps.{noCounts}
-use Rattle.stores.specs.Allowance.{started, Sane}
+use Rattle.steps.specs.Steps.{noCounts}
+use Rattle.steps.specs.Allowance.{started, Sane}
 use Rattle.device.proofs.start.Statement.{statement}
 use Rattle.device.proofs.start.Tie as tie
 

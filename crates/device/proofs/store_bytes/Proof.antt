@@ -6,14 +6,14 @@ use mathlib.Core.Path.{_≡_}
 use mathlib.Core.List.{[], _∷_}
 use lib.ListN.{length}
 use borrow.Author.Needs.{needs}
-use Rattle.units.specs.Units.{put, unitPut}
+use Rattle.bytes.specs.Units.{put, unitPut}
 use Rattle.layout.specs.Layout.{Layout, layoutOf}
 use Rattle.layout.specs.Images.{Images}
-use Rattle.stores.specs.declared.Progress.{Progress}
-use Rattle.stores.specs.Store.{Store, recorded, apply}
-use Rattle.stores.specs.Steps.{plain, programsOf, erasesOf}
-use Rattle.stores.specs.Allowance.{Sane, Ran}
-use Rattle.stores.proofs.Allowances.{counting, ran-stop, ran-one}
+use Rattle.steps.specs.declared.Progress.{Progress}
+use Rattle.steps.specs.Store.{Store, recorded, apply}
+use Rattle.steps.specs.Steps.{plain, programsOf, erasesOf}
+use Rattle.steps.specs.Allowance.{Sane, Ran}
+use Rattle.steps.proofs.Allowances.{counting, ran-stop, ran-one}
 use Rattle.device.proofs.Places.{record-within}
 use Rattle.device.proofs.store_bytes.Statement.{statement}
 use Rattle.device.proofs.store_bytes.Tie as tie

@@ -1,7 +1,7 @@
 -- The bytes of the collection record become the last record, which is what the store makes of the images.
 use mathlib.Core.Path.{refl}
 use borrow.Author.Needs.{needs}
-use Rattle.stores.specs.Store.{collection, apply}
+use Rattle.steps.specs.Store.{collection, apply}
 use Rattle.codec.specs.Views.{collectionFrom}
 use Rattle.device.proofs.store_collection.Statement.{statement}
 use Rattle.device.proofs.store_collection.Tie as tie

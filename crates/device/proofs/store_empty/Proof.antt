@@ -4,7 +4,7 @@ use borrow.Author.Needs.{needs}
 use Rattle.layout.specs.Layout.{layoutOf}
 use Rattle.layout.specs.Record.{emptyRecord}
 use Rattle.layout.proofs.Rows.{empty-bytes}
-use Rattle.stores.specs.Store.{stripe, apply}
+use Rattle.steps.specs.Store.{stripe, apply}
 use Rattle.device.proofs.store_empty.Statement.{statement}
 use Rattle.device.proofs.store_empty.Tie as tie
 

@@ -2,7 +2,7 @@
 use mathlib.Core.Path.{refl}
 use borrow.Author.Needs.{needs}
 use Rattle.layout.specs.Layout.{layoutOf}
-use Rattle.stores.specs.Store.{stripe, apply}
+use Rattle.steps.specs.Store.{stripe, apply}
 use Rattle.codec.specs.Views.{recordFrom}
 use Rattle.device.proofs.store_record.Statement.{statement}
 use Rattle.device.proofs.store_record.Tie as tie

@@ -4,10 +4,10 @@ use native.Mathlib.Nat.{add-sub-cancel-left}
 use native.Mathlib.Omega.{arith}
 use lib.ListN.{length}
 use borrow.Author.Needs.{needs}
-use Rattle.units.specs.Units.{put, unitPut}
+use Rattle.bytes.specs.Units.{put, unitPut}
 use Rattle.layout.specs.Layout.{layoutOf}
-use Rattle.stores.specs.Store.{apply}
-use Rattle.stores.proofs.Allowances.{ran-stop, ran-one}
+use Rattle.steps.specs.Store.{apply}
+use Rattle.steps.proofs.Allowances.{ran-stop, ran-one}
 use Rattle.codec.proofs.Offsets.{slot-within}
 use Rattle.device.proofs.store_slot.Statement.{statement}
 use Rattle.device.proofs.store_slot.Tie as tie

@@ -12,7 +12,7 @@ use Rattle.layout.specs.Layout.{layoutOf}
 use Rattle.layout.specs.Record.{recordAt}
 use Rattle.layout.proofs.Limits.{within}
 use Rattle.names.specs.Stamps.{namesBelow}
-use Rattle.units.proofs.Tallies.{ones}
+use Rattle.ranges.proofs.Tallies.{ones}
 use Rattle.names.proofs.Readings.{names-start, names-more, names-few}
 use Rattle.names.proofs.names_on.Statement.{statement}
 use Rattle.names.proofs.names_on.Tie as tie

@@ -6,10 +6,10 @@ use mathlib.Core.Path.{_≡_, refl, sym, ap, _∙_}
 use mathlib.Core.Logic.{_≢_}
 use mathlib.Core.Bool.{true}
 use mathlib.Core.List.{List}
-use Rattle.units.specs.Look.{countBelow}
-use Rattle.units.specs.Update.{at}
-use Rattle.units.proofs.Updates.{at-same, at-other}
-use Rattle.units.proofs.Counts.{count-flip}
+use Rattle.ranges.specs.Look.{countBelow}
+use Rattle.ranges.specs.Update.{at}
+use Rattle.ranges.proofs.Updates.{at-same, at-other}
+use Rattle.ranges.proofs.Counts.{count-flip}
 use Rattle.layout.specs.Layout.{Layout}
 use Rattle.layout.specs.Rotation.{parityChip, memberOf, stripeOf}
 use Rattle.layout.specs.Page.{pageAt}
@@ -18,7 +18,7 @@ use Rattle.layout.specs.Collection.{collectionAt}
 use Rattle.layout.specs.Images.{Images, slotAt}
 use Rattle.layout.proofs.Records.{SixMembers, six-members}
 use Rattle.layout.proofs.Pages.{page-number}
-use Rattle.stores.specs.Store.{stripe, apply}
+use Rattle.steps.specs.Store.{stripe, apply}
 use Rattle.rules.specs.Commit.{newParity, committed}
 use Rattle.rules.proofs.Soundness.Statements.{Usable, RecordSound, Sound}
 use Rattle.rules.proofs.Stores.Kept.{CopiesOf, Kept}

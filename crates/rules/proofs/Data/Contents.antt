@@ -10,11 +10,11 @@ use lib.ListN.{length}
 use lib.Arith.{digits-lt}
 use lib.Seq.{length-take-le}
 use borrow.Author.Tests.{eq-eqb, ne-eqb}
-use Rattle.units.specs.Units.{unit}
-use Rattle.units.specs.Xor.{_⊕_}
-use Rattle.units.proofs.Looks.{by-test, both}
-use Rattle.units.proofs.Units.{length-unit, unit-unit}
-use Rattle.units.proofs.Xors.{xor-below-cong, xor-below-nil, xor-below-one, xor-below-split, length-xor-below, length-xor-below-exact}
+use Rattle.bytes.specs.Units.{unit}
+use Rattle.bytes.specs.Xor.{_⊕_}
+use Rattle.ranges.proofs.Looks.{by-test, both}
+use Rattle.bytes.proofs.Units.{length-unit, unit-unit}
+use Rattle.bytes.proofs.Xors.{xor-below-cong, xor-below-nil, xor-below-one, xor-below-split, length-xor-below, length-xor-below-exact}
 use Rattle.layout.specs.Layout.{Layout, none, pages, pageBytes}
 use Rattle.layout.specs.Rotation.{parityChip, memberChip}
 use Rattle.layout.specs.Page.{Page, pageOf, pageAt}

@@ -4,8 +4,8 @@ use native.Mathlib.Omega.{arith}
 use mathlib.Core.Path.{_≡_, refl}
 use mathlib.Core.Bool.{true, false}
 use borrow.Author.Tests.{eq-eqb}
-use Rattle.units.proofs.Looks.{by-test, both}
-use Rattle.units.proofs.Counts.{count-apart, count-implies}
+use Rattle.ranges.proofs.Looks.{by-test, both}
+use Rattle.ranges.proofs.Counts.{count-apart, count-implies}
 use Rattle.layout.specs.Layout.{Layout, none, isNone}
 use Rattle.layout.specs.Record.{Record, bit}
 use Rattle.rules.specs.Gather.{readsAt, isPage, gatheredReads}

@@ -8,9 +8,9 @@ use mathlib.Core.Bool.{true}
 use mathlib.Core.List.{List}
 use lib.ListN.{length}
 use lib.Pow.{pow-pos}
-use Rattle.units.specs.Xor.{_⊕_}
-use Rattle.units.proofs.Looks.{by-test, both}
-use Rattle.units.proofs.Xors.{length-xors, length-xors-left}
+use Rattle.bytes.specs.Xor.{_⊕_}
+use Rattle.ranges.proofs.Looks.{by-test, both}
+use Rattle.bytes.proofs.Xors.{length-xors, length-xors-left}
 use Rattle.layout.specs.Layout.{Layout, none, pages}
 use Rattle.layout.specs.Rotation.{parityChip, memberChip}
 use Rattle.layout.specs.Page.{Page, pageAt}

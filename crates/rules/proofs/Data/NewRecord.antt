@@ -6,7 +6,7 @@ use mathlib.Core.Path.{_≡_, refl, ap, _∙_}
 use mathlib.Core.Logic.{_≢_}
 use mathlib.Core.Bool.{false}
 use mathlib.Core.List.{List}
-use Rattle.units.proofs.Updates.{at-same, at-other}
+use Rattle.ranges.proofs.Updates.{at-same, at-other}
 use Rattle.layout.specs.Layout.{Layout, noChip, isNone, pages}
 use Rattle.layout.specs.Rotation.{memberOf, stripeOf}
 use Rattle.layout.specs.Page.{pageAt}
@@ -14,7 +14,7 @@ use Rattle.layout.specs.Record.{Record, recordAt}
 use Rattle.layout.specs.Collection.{Collection, collectionAt}
 use Rattle.layout.specs.Images.{Images, slotAt}
 use Rattle.layout.proofs.Records.{SixMembers}
-use Rattle.stores.specs.Store.{stripe, apply}
+use Rattle.steps.specs.Store.{stripe, apply}
 use Rattle.rules.specs.Names.{mainNumber, sideNumber, named}
 use Rattle.rules.specs.Read.{fetch}
 use Rattle.rules.proofs.Soundness.Statements.{Usable, RecordSound, Stamped, Sound, sound-chip}

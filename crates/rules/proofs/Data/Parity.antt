@@ -9,10 +9,10 @@ use mathlib.Core.List.{List}
 use lib.ListN.{length}
 use lib.Dec.{eqb}
 use borrow.Author.Tests.{eq-eqb, ne-eqb}
-use Rattle.units.specs.Xor.{_⊕_}
-use Rattle.units.proofs.Looks.{by-test, both}
-use Rattle.units.proofs.Updates.{at-same, at-other}
-use Rattle.units.proofs.Xors.{xor-nil-l, xor-nil-r, cancel-around, cancel-inside, cancel-rest}
+use Rattle.bytes.specs.Xor.{_⊕_}
+use Rattle.ranges.proofs.Looks.{by-test, both}
+use Rattle.ranges.proofs.Updates.{at-same, at-other}
+use Rattle.bytes.proofs.Xors.{xor-nil-l, xor-nil-r, cancel-around, cancel-inside, cancel-rest}
 use Rattle.layout.specs.Layout.{Layout, none}
 use Rattle.layout.specs.Rotation.{parityChip, memberChip}
 use Rattle.layout.specs.Page.{Page}

@@ -5,7 +5,7 @@ use mathlib.Core.Path.{_≡_, sym, _∙_}
 use mathlib.Core.Logic.{_≢_}
 use mathlib.Core.List.{List}
 use borrow.Author.Tests.{eq-eqb, ne-eqb}
-use Rattle.units.proofs.Looks.{by-test}
+use Rattle.ranges.proofs.Looks.{by-test}
 use Rattle.layout.specs.Layout.{Layout, noChip, none}
 use Rattle.layout.specs.Rotation.{parityChip, memberChip, memberOf, stripeOf}
 use Rattle.layout.specs.Page.{Page, pageAt}

@@ -9,11 +9,11 @@ use mathlib.Core.Bool.{true, false}
 use mathlib.Core.List.{List}
 use lib.ListN.{length}
 use borrow.Author.Tests.{ne-eqb}
-use Rattle.units.specs.Look.{countBelow}
-use Rattle.units.specs.Update.{at}
-use Rattle.units.proofs.Looks.{by-test}
-use Rattle.units.proofs.Updates.{at-same, at-other}
-use Rattle.units.proofs.Counts.{count-cong, count-flip}
+use Rattle.ranges.specs.Look.{countBelow}
+use Rattle.ranges.specs.Update.{at}
+use Rattle.ranges.proofs.Looks.{by-test}
+use Rattle.ranges.proofs.Updates.{at-same, at-other}
+use Rattle.ranges.proofs.Counts.{count-cong, count-flip}
 use Rattle.layout.specs.Layout.{Layout, noChip, none}
 use Rattle.layout.specs.Rotation.{memberChip, memberOf, stripeOf}
 use Rattle.layout.specs.Page.{pageAt}
@@ -23,7 +23,7 @@ use Rattle.layout.specs.Images.{Images, slotAt}
 use Rattle.layout.proofs.Records.{SixMembers, six-members}
 use Rattle.layout.proofs.Pages.{page-number}
 use Rattle.layout.proofs.Rotations.{stripe-fits, member-fits}
-use Rattle.stores.specs.Store.{stripe, apply}
+use Rattle.steps.specs.Store.{stripe, apply}
 use Rattle.rules.specs.Write.{newPartial, written}
 use Rattle.rules.specs.Read.{Fetched, fetch}
 use Rattle.rules.proofs.Soundness.Statements.{Usable, RecordSound, Sound}

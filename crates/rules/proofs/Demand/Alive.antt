@@ -5,13 +5,13 @@ use mathlib.Core.List.{List}
 use lib.ListN.{length}
 use lib.Seq.{take-all}
 use borrow.Author.Tests.{ltb-true, ltb-false}
-use Rattle.units.proofs.Looks.{by-test}
+use Rattle.ranges.proofs.Looks.{by-test}
 use Rattle.layout.specs.Layout.{Layout}
 use Rattle.layout.specs.Rotation.{stripeOf}
 use Rattle.layout.specs.Images.{Images}
-use Rattle.stores.specs.declared.Counts.{Counts}
-use Rattle.stores.specs.Steps.{Step, noCounts, made, isCut, applyAll}
-use Rattle.stores.proofs.Prefixes.{Every, Closes}
+use Rattle.steps.specs.declared.Counts.{Counts}
+use Rattle.steps.specs.Steps.{Step, noCounts, made, isCut, applyAll}
+use Rattle.steps.proofs.Prefixes.{Every, Closes}
 use Rattle.rules.specs.declared.Check.{Check}
 use Rattle.rules.specs.declared.Check.the-variants.{Passed, Failed}
 use Rattle.rules.specs.Refusals.{checked, imagesRows, writeRows, commitRows, collectRows}

@@ -7,9 +7,9 @@ use mathlib.Core.List.{List}
 use lib.ListN.{length}
 use lib.Dec.{eqb}
 use borrow.Author.Tests.{eqb-true, eqb-false}
-use Rattle.units.specs.Update.{at}
-use Rattle.units.proofs.Looks.{by-test}
-use Rattle.units.proofs.Updates.{at-same, at-other}
+use Rattle.ranges.specs.Update.{at}
+use Rattle.ranges.proofs.Looks.{by-test}
+use Rattle.ranges.proofs.Updates.{at-same, at-other}
 use Rattle.layout.specs.Layout.{Layout, noChip, none}
 use Rattle.layout.specs.Rotation.{parityChip, memberOf, stripeOf}
 use Rattle.layout.specs.Page.{pageAt}
@@ -17,7 +17,7 @@ use Rattle.layout.specs.Record.{Record, bit, emptyRecord, recordAt}
 use Rattle.layout.specs.Collection.{Collection, collectionAt}
 use Rattle.layout.specs.Images.{Images}
 use Rattle.layout.proofs.Rotations.{stripe-fits}
-use Rattle.stores.specs.declared.Counts.{Counts}
+use Rattle.steps.specs.declared.Counts.{Counts}
 use Rattle.rules.specs.declared.Reading.the-variants.{Done as ReadDone}
 use Rattle.rules.specs.Refusals.{lostNamed}
 use Rattle.rules.specs.Read.{Fetched, fetch}

@@ -9,14 +9,14 @@ use mathlib.Core.List.{List}
 use lib.ListN.{length}
 use lib.Dec.{eqb}
 use borrow.Author.Tests.{le-leb}
-use Rattle.units.specs.Units.{unit, unitPut}
-use Rattle.units.proofs.Units.{unit-other, length-unitPut}
-use Rattle.units.proofs.Tests.{or-right}
+use Rattle.bytes.specs.Units.{unit, unitPut}
+use Rattle.bytes.proofs.Units.{unit-other, length-unitPut}
+use Rattle.ranges.proofs.Tests.{or-right}
 use Rattle.layout.specs.Layout.{Layout, noChip, pages, pageBytes, chipBytes}
 use Rattle.layout.specs.Page.{Page, pageOf, pageAt}
 use Rattle.layout.specs.Images.{Images, chipsLength}
-use Rattle.stores.specs.Steps.{noCounts}
-use Rattle.stores.proofs.Prefixes.{every-nil}
+use Rattle.steps.specs.Steps.{noCounts}
+use Rattle.steps.proofs.Prefixes.{every-nil}
 use Rattle.rules.specs.declared.Check.{Check}
 use Rattle.rules.specs.declared.Check.the-variants.{Passed, Failed}
 use Rattle.rules.specs.Refusals.{lostNamed, checked, imagesRows, writeRows, commitRows, collectRows}

@@ -4,7 +4,7 @@ use mathlib.Core.Path.{_≡_, refl}
 use mathlib.Core.Bool.{true}
 use mathlib.Core.List.{List, [], _∷_}
 use lib.ListN.{length}
-use Rattle.units.specs.Rows.{Rows}
+use Rattle.ranges.specs.Rows.{Rows}
 use Rattle.layout.specs.Layout.{Layout}
 use Rattle.layout.specs.Rotation.{parityChip}
 use Rattle.layout.specs.Images.{Images, lengths}

@@ -1,18 +1,18 @@
 -- Names every definition that a computed row looks through, so that a row says `unfolding computes` alone.
 use Prim.Native.Nat.{ℕ}
-use Rattle.units.specs.Look.{allBelow, someBelow, countBelow, whenFound, firstBelow, leastBelow}
-use Rattle.units.specs.Number.{number, digits}
-use Rattle.units.specs.Units.{part, put, unit, unitPut}
-use Rattle.units.specs.Update.{at}
-use Rattle.units.specs.Xor.{_⊕_, xorBelow}
+use Rattle.ranges.specs.Look.{allBelow, someBelow, countBelow, whenFound, firstBelow, leastBelow}
+use Rattle.bytes.specs.Number.{number, digits}
+use Rattle.bytes.specs.Units.{part, put, unit, unitPut}
+use Rattle.ranges.specs.Update.{at}
+use Rattle.bytes.specs.Xor.{_⊕_, xorBelow}
 use Rattle.layout.specs.Collection.{collectionOf, bytesOfCollection, collectionAt}
 use Rattle.layout.specs.Images.{chipsLength, recordsLength, slotsLength, lengths, slotAt}
 use Rattle.layout.specs.Layout.{none, limits}
 use Rattle.layout.specs.Page.{pageOf, bytesOfPage, pageAt}
 use Rattle.layout.specs.Record.{bit, row, sixFrom, recordOf, bytesOfRecord, emptyRecord, recordAt}
 use Rattle.layout.specs.Rotation.{parityChip, memberChip, memberOn}
-use Rattle.stores.specs.Steps.{applyAll, andThen, counted, countedAll, stepsBelow, thenBelow}
-use Rattle.stores.specs.Store.{programmed, erased, recorded, apply}
+use Rattle.steps.specs.Steps.{applyAll, andThen, counted, countedAll, stepsBelow, thenBelow}
+use Rattle.steps.specs.Store.{programmed, erased, recorded, apply}
 use Rattle.rules.specs.Blocks.{cleanBlock, fullBlock, orderedBlock, lowestCleanBlock}
 use Rattle.rules.specs.Calls.{run, formatCall, openCall, writeCall, commitCall, collectCall, readCall}
 use Rattle.rules.specs.Collect.{collectable, namedCount, victimOf, copyFrom, copySteps, collectSteps}

@@ -7,10 +7,10 @@ use mathlib.Core.List.{List, [], _∷_}
 use lib.ListN.{length, replicate}
 use lib.Arith.{digits-lt}
 use borrow.Author.Tests.{eq-eqb, ne-eqb}
-use Rattle.units.specs.Look.{whenFound}
-use Rattle.units.specs.declared.Found.the-variants.{At}
-use Rattle.units.proofs.Looks.{all-true, some-false, first-none, first-is}
-use Rattle.units.proofs.Counts.{count-zero, count-all}
+use Rattle.ranges.specs.Look.{whenFound}
+use Rattle.ranges.specs.declared.Found.the-variants.{At}
+use Rattle.ranges.proofs.Looks.{all-true, some-false, first-none, first-is}
+use Rattle.ranges.proofs.Counts.{count-zero, count-all}
 use Rattle.layout.specs.Layout.{Layout, noChip, none, pageIn}
 use Rattle.layout.specs.Rotation.{memberChip, memberOf, stripeOf}
 use Rattle.layout.specs.Page.{pageAt}
@@ -18,9 +18,9 @@ use Rattle.layout.specs.Record.{slotted, slotOf, emptyRecord, recordAt}
 use Rattle.layout.specs.Images.{Images}
 use Rattle.layout.proofs.Limits.{within}
 use Rattle.layout.proofs.Rotations.{stripe-fits, page-chip-fits}
-use Rattle.stores.specs.Store.{program, slot, stripe, apply}
-use Rattle.stores.specs.Steps.{plain, andThen, applyAll, noCounts, counted, countedAll}
-use Rattle.stores.proofs.View.{erased-clean}
+use Rattle.steps.specs.Store.{program, slot, stripe, apply}
+use Rattle.steps.specs.Steps.{plain, andThen, applyAll, noCounts, counted, countedAll}
+use Rattle.steps.proofs.View.{erased-clean}
 use Rattle.rules.specs.Blocks.{cleanIn, cleanBlock}
 use Rattle.rules.specs.Place.{openBlock, placeOf, roomSteps, atPlace, placed}
 use Rattle.rules.specs.declared.Reading.the-variants.{Done as ReadDone}

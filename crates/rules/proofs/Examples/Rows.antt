@@ -4,11 +4,11 @@ use mathlib.Core.Path.{_≡_, refl}
 use mathlib.Core.List.{List, [], _∷_}
 use lib.ListN.{replicate, length, getD}
 use lib.Dec.{lit≤}
-use Rattle.units.proofs.Tests.{same-rows}
+use Rattle.ranges.proofs.Tests.{same-rows}
 use Rattle.layout.specs.Layout.{Layout}
 use Rattle.layout.specs.Images.{Images}
 use Rattle.layout.proofs.Rows.{geometry}
-use Rattle.stores.specs.declared.Counts.{Counts}
+use Rattle.steps.specs.declared.Counts.{Counts}
 use Rattle.rules.specs.Calls.{Outcome, ReadOutcome, statusOf, countsOf, readStatusOf, readCountsOf, formatCall, writeCall, readCall}
 use Rattle.rules.proofs.Examples.Compute.{computes}
 use Rattle.rules.proofs.Examples.FirstWrite.{FirstWrite, first-write}

@@ -8,13 +8,13 @@ use mathlib.Core.List.{List}
 use lib.ListN.{length}
 use lib.Seq.{take-all}
 use borrow.Author.Tests.{le-ltb}
-use Rattle.units.proofs.Looks.{by-order}
+use Rattle.ranges.proofs.Looks.{by-order}
 use Rattle.layout.specs.Layout.{Layout}
 use Rattle.layout.specs.Images.{Images}
-use Rattle.stores.specs.declared.Counts.{Counts}
-use Rattle.stores.specs.declared.Progress.{Progress}
-use Rattle.stores.specs.Steps.{Step, made, isCut}
-use Rattle.stores.specs.Allowance.{started, after, applied, Ran}
+use Rattle.steps.specs.declared.Counts.{Counts}
+use Rattle.steps.specs.declared.Progress.{Progress}
+use Rattle.steps.specs.Steps.{Step, made, isCut}
+use Rattle.steps.specs.Allowance.{started, after, applied, Ran}
 use Rattle.rules.specs.declared.Answer.{Answer}
 use Rattle.rules.specs.declared.Answer.the-variants.{Cut, Done, Refused}
 use Rattle.rules.specs.declared.Refusal.{Refusal}

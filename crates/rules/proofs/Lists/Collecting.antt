@@ -4,18 +4,18 @@ use mathlib.Core.Path.{_≡_, ap}
 use mathlib.Core.Logic.{_≢_}
 use mathlib.Core.List.{List}
 use borrow.Author.Tests.{not-true}
-use Rattle.units.specs.declared.Found.the-variants.{At}
-use Rattle.units.specs.Look.{whenFound, someBelow}
-use Rattle.units.proofs.Looks.{by-found, all-at, some-at, first-at, first-found, least-at}
-use Rattle.units.proofs.Tests.{and-both}
+use Rattle.ranges.specs.declared.Found.the-variants.{At}
+use Rattle.ranges.specs.Look.{whenFound, someBelow}
+use Rattle.ranges.proofs.Looks.{by-found, all-at, some-at, first-at, first-found, least-at}
+use Rattle.ranges.proofs.Tests.{and-both}
 use Rattle.layout.specs.Layout.{Layout, pageIn}
 use Rattle.layout.specs.Page.{Page, pageAt}
 use Rattle.layout.specs.Record.{Record, recordAt}
 use Rattle.layout.specs.Collection.{Collection, collectionAt}
 use Rattle.layout.specs.Images.{Images}
-use Rattle.stores.specs.Steps.{Step}
-use Rattle.stores.proofs.View.{wiped}
-use Rattle.stores.proofs.Prefixes.{Leads, leads-nil, leads-then, leads-weaken, Closes, closes-then}
+use Rattle.steps.specs.Steps.{Step}
+use Rattle.steps.proofs.View.{wiped}
+use Rattle.steps.proofs.Prefixes.{Leads, leads-nil, leads-then, leads-weaken, Closes, closes-then}
 use Rattle.rules.specs.Names.{named}
 use Rattle.rules.specs.Blocks.{cleanIn, usedIn, unnamedIn, cleanBlock, fullBlock, lowestCleanBlock}
 use Rattle.rules.specs.Collect.{collectable, namedCount, victimOf, copySteps, collectSteps}

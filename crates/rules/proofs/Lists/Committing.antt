@@ -4,8 +4,8 @@ use native.Mathlib.Omega.{arith}
 use mathlib.Core.Path.{_≡_, refl, sym, ap, _∙_}
 use mathlib.Core.Logic.{_≢_}
 use mathlib.Core.Bool.{true}
-use Rattle.units.specs.Look.{countBelow}
-use Rattle.units.proofs.Counts.{count-cong}
+use Rattle.ranges.specs.Look.{countBelow}
+use Rattle.ranges.proofs.Counts.{count-cong}
 use Rattle.layout.specs.Layout.{Layout}
 use Rattle.layout.specs.Rotation.{parityChip}
 use Rattle.layout.specs.Page.{Page, pageAt}
@@ -16,9 +16,9 @@ use Rattle.layout.proofs.Codec.{PageFits}
 use Rattle.layout.proofs.Rotations.{parity-chip-fits}
 use Rattle.layout.proofs.Records.{same-slotted}
 use Rattle.layout.proofs.Pages.{none-fits}
-use Rattle.stores.specs.Store.{program, stripe, apply}
-use Rattle.stores.specs.Steps.{Step, plain}
-use Rattle.stores.proofs.Prefixes.{Closes, closes-two}
+use Rattle.steps.specs.Store.{program, stripe, apply}
+use Rattle.steps.specs.Steps.{Step, plain}
+use Rattle.steps.proofs.Prefixes.{Closes, closes-two}
 use Rattle.rules.specs.Commit.{newParity, newParityReads, parityPage, committed, commitAt, commitSteps}
 use Rattle.rules.proofs.Soundness.Statements.{Usable, Sound}
 use Rattle.rules.proofs.Stores.Names.{kind-parity, stamp-parity}

@@ -7,11 +7,11 @@ use mathlib.Core.Logic.{_≢_}
 use mathlib.Core.Bool.{Bool, true, false}
 use mathlib.Core.List.{[], _∷_, _++_}
 use borrow.Author.Tests.{eq-eqb, ne-eqb, eqb-true}
-use Rattle.units.specs.Look.{countBelow}
-use Rattle.units.specs.Update.{at}
-use Rattle.units.proofs.Looks.{by-test, by-order, at-last, both}
-use Rattle.units.proofs.Updates.{at-same, at-other}
-use Rattle.units.proofs.Counts.{count-pass, count-fail, count-mono, count-less, count-all, count-start, count-same}
+use Rattle.ranges.specs.Look.{countBelow}
+use Rattle.ranges.specs.Update.{at}
+use Rattle.ranges.proofs.Looks.{by-test, by-order, at-last, both}
+use Rattle.ranges.proofs.Updates.{at-same, at-other}
+use Rattle.ranges.proofs.Counts.{count-pass, count-fail, count-mono, count-less, count-all, count-start, count-same}
 use Rattle.layout.specs.Layout.{Layout, none, pageIn, inBlock}
 use Rattle.layout.specs.Page.{Page, cleanKind, clean, pageAt}
 use Rattle.layout.specs.Record.{Record, recordAt}
@@ -20,9 +20,9 @@ use Rattle.layout.specs.Images.{Images}
 use Rattle.layout.proofs.Codec.{PageFits}
 use Rattle.layout.proofs.Pages.{page-in-fits, same-place, in-own-block, in-other-block, page-number}
 use Rattle.layout.proofs.Pages.{none-fits}
-use Rattle.stores.specs.Store.{program, collection, apply}
-use Rattle.stores.specs.Steps.{plain, stepsBelow, applyAll}
-use Rattle.stores.proofs.Prefixes.{Leads, leads-nil, leads-one, leads-cons, leads-append, leads-below}
+use Rattle.steps.specs.Store.{program, collection, apply}
+use Rattle.steps.specs.Steps.{plain, stepsBelow, applyAll}
+use Rattle.steps.proofs.Prefixes.{Leads, leads-nil, leads-one, leads-cons, leads-append, leads-below}
 use Rattle.rules.specs.Names.{named}
 use Rattle.rules.specs.Blocks.{cleanIn, namedIn, unnamedIn, cleanBlock}
 use Rattle.rules.specs.Sound.{collecting, twinIn}

@@ -6,12 +6,12 @@ use mathlib.Core.List.{List}
 use lib.ListN.{length}
 use lib.Seq.{take-all}
 use borrow.Author.Tests.{lt-ltb, le-ltb, ltb-true}
-use Rattle.units.proofs.Looks.{by-test}
+use Rattle.ranges.proofs.Looks.{by-test}
 use Rattle.layout.specs.Layout.{Layout}
 use Rattle.layout.specs.Images.{Images}
-use Rattle.stores.specs.declared.Counts.{Counts}
-use Rattle.stores.specs.Steps.{Step, noCounts, made, isCut, applyAll}
-use Rattle.stores.proofs.Totals.{withTotals, counts-are, cut-stores}
+use Rattle.steps.specs.declared.Counts.{Counts}
+use Rattle.steps.specs.Steps.{Step, noCounts, made, isCut, applyAll}
+use Rattle.steps.proofs.Totals.{withTotals, counts-are, cut-stores}
 use Rattle.rules.specs.declared.Refusal.{Refusal}
 use Rattle.rules.specs.declared.Check.{Check}
 use Rattle.rules.specs.declared.Check.the-variants.{Passed, Failed}

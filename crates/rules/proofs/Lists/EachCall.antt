@@ -7,12 +7,12 @@ use lib.ListN.{length}
 use lib.Seq.{take-all}
 use lib.Dec.{eqb}
 use borrow.Author.Tests.{ne-eqb}
-use Rattle.units.proofs.Looks.{by-test, by-order}
+use Rattle.ranges.proofs.Looks.{by-test, by-order}
 use Rattle.layout.specs.Layout.{Layout, noChip}
 use Rattle.layout.specs.Rotation.{stripeOf}
 use Rattle.layout.specs.Images.{Images}
-use Rattle.stores.specs.Steps.{Step, made, applyAll}
-use Rattle.stores.proofs.Prefixes.{Every, every-nil, Closes, closes-leads, closes-weaken}
+use Rattle.steps.specs.Steps.{Step, made, applyAll}
+use Rattle.steps.proofs.Prefixes.{Every, every-nil, Closes, closes-leads, closes-weaken}
 use Rattle.rules.specs.Open.{finishSteps, openSteps}
 use Rattle.rules.specs.Collect.{collectSteps}
 use Rattle.rules.specs.Commit.{commitSteps}

@@ -7,17 +7,17 @@ use mathlib.Core.Bool.{true, false}
 use mathlib.Core.List.{[], _∷_}
 use lib.Dec.{eqb}
 use borrow.Author.Tests.{eqb-true, eqb-false}
-use Rattle.units.proofs.Looks.{by-test}
-use Rattle.units.proofs.Updates.{at-same}
+use Rattle.ranges.proofs.Looks.{by-test}
+use Rattle.ranges.proofs.Updates.{at-same}
 use Rattle.layout.specs.Layout.{Layout, pageIn}
 use Rattle.layout.specs.Page.{Page, pageAt}
 use Rattle.layout.specs.Record.{recordAt}
 use Rattle.layout.specs.Collection.{Collection, collectionAt, idle}
 use Rattle.layout.specs.Images.{Images}
-use Rattle.stores.specs.Store.{erase, collection, apply}
-use Rattle.stores.specs.Steps.{plain}
-use Rattle.stores.proofs.View.{wiped, page-erased}
-use Rattle.stores.proofs.Prefixes.{Leads, leads-one, leads-cons}
+use Rattle.steps.specs.Store.{erase, collection, apply}
+use Rattle.steps.specs.Steps.{plain}
+use Rattle.steps.proofs.View.{wiped, page-erased}
+use Rattle.steps.proofs.Prefixes.{Leads, leads-one, leads-cons}
 use Rattle.rules.specs.Names.{named}
 use Rattle.rules.specs.Blocks.{cleanBlock}
 use Rattle.rules.specs.Open.{ending}

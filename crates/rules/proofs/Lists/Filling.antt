@@ -4,8 +4,8 @@ use native.Mathlib.Omega.{arith}
 use mathlib.Core.Path.{_≡_, ap, _∙_}
 use mathlib.Core.Logic.{_≢_}
 use mathlib.Core.Bool.{false}
-use Rattle.units.specs.Update.{at}
-use Rattle.units.proofs.Updates.{at-same}
+use Rattle.ranges.specs.Update.{at}
+use Rattle.ranges.proofs.Updates.{at-same}
 use Rattle.layout.specs.Layout.{Layout, pages}
 use Rattle.layout.specs.Page.{Page, cleanKind, pageAt}
 use Rattle.layout.specs.Record.{recordAt}
@@ -13,7 +13,7 @@ use Rattle.layout.specs.Collection.{collectionAt}
 use Rattle.layout.specs.Images.{Images}
 use Rattle.layout.proofs.Codec.{PageFits}
 use Rattle.layout.proofs.Pages.{page-in-fits, page-number}
-use Rattle.stores.specs.Store.{program, apply}
+use Rattle.steps.specs.Store.{program, apply}
 use Rattle.rules.specs.Names.{kindOn, memberByte, named}
 use Rattle.rules.proofs.Soundness.Statements.{Usable, Sound, sound-chip}
 use Rattle.rules.proofs.Stores.Names.{clean-unnamed}

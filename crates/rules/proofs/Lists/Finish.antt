@@ -8,16 +8,16 @@ use mathlib.Core.Bool.{true, false}
 use mathlib.Core.List.{[]}
 use lib.Dec.{eqb}
 use borrow.Author.Tests.{eqb-true, eqb-false}
-use Rattle.units.proofs.Looks.{by-test, both, at-last}
+use Rattle.ranges.proofs.Looks.{by-test, both, at-last}
 use Rattle.layout.specs.Layout.{Layout, pageIn, inBlock}
 use Rattle.layout.specs.Page.{Page, pageAt}
 use Rattle.layout.specs.Record.{Record, recordAt}
 use Rattle.layout.specs.Collection.{Collection, collectionAt, idle}
 use Rattle.layout.specs.Images.{Images}
 use Rattle.layout.proofs.Pages.{same-place, in-own-block, in-other-block}
-use Rattle.stores.specs.Store.{apply}
-use Rattle.stores.specs.Steps.{andThen, thenBelow}
-use Rattle.stores.proofs.Prefixes.{Leads, leads-nil, leads-one, leads-then, leads-then-below, leads-weaken}
+use Rattle.steps.specs.Store.{apply}
+use Rattle.steps.specs.Steps.{andThen, thenBelow}
+use Rattle.steps.proofs.Prefixes.{Leads, leads-nil, leads-one, leads-then, leads-then-below, leads-weaken}
 use Rattle.rules.specs.Names.{named}
 use Rattle.rules.specs.Open.{ending, due, moveStep, moveFrom, moveSteps, finishOf, finishSteps}
 use Rattle.rules.proofs.Soundness.Statements.{Usable, CollectionSound, ChipSound, Sound, sound-chip}

@@ -8,10 +8,10 @@ use mathlib.Core.Bool.{true}
 use mathlib.Core.List.{[], _∷_, _++_}
 use lib.ListN.{length}
 use borrow.Author.Tests.{lt-ltb, le-leb, lt-leb}
-use Rattle.units.specs.Update.{at}
-use Rattle.units.proofs.Looks.{by-order, at-last}
-use Rattle.units.proofs.Numbers.{pow-positive}
-use Rattle.units.proofs.Updates.{at-same, at-other}
+use Rattle.ranges.specs.Update.{at}
+use Rattle.ranges.proofs.Looks.{by-order, at-last}
+use Rattle.bytes.proofs.Numbers.{pow-positive}
+use Rattle.ranges.proofs.Updates.{at-same, at-other}
 use Rattle.layout.specs.Layout.{Layout, limits, pages, recordBytes}
 use Rattle.layout.specs.Page.{Page, pageAt}
 use Rattle.layout.specs.Record.{emptyRecord, recordAt, restBytes, bytesOfRecord}
@@ -19,10 +19,10 @@ use Rattle.layout.specs.Collection.{collectionAt, idle, bytesOfCollection}
 use Rattle.layout.specs.Images.{Images, lengths, chipsLength, recordsLength, slotsLength}
 use Rattle.layout.proofs.Pages.{none-fits}
 use Rattle.layout.proofs.Codec.{RecordFits, CollectionFits, length-record, length-collection}
-use Rattle.stores.specs.Store.{apply, collection}
-use Rattle.stores.specs.Steps.{plain, applyAll, stepsBelow}
-use Rattle.stores.proofs.Runs.{apply-append, below-carries}
-use Rattle.stores.proofs.View.{erasedPage, wiped, page-erased, length-erased, length-recorded, record-stored, collection-stored, records-stay}
+use Rattle.steps.specs.Store.{apply, collection}
+use Rattle.steps.specs.Steps.{plain, applyAll, stepsBelow}
+use Rattle.steps.proofs.Runs.{apply-append, below-carries}
+use Rattle.steps.proofs.View.{erasedPage, wiped, page-erased, length-erased, length-recorded, record-stored, collection-stored, records-stay}
 use Rattle.rules.specs.Refusals.{checked, buffersRows}
 use Rattle.rules.specs.Calls.{Outcome, formatCall, verdict, done}
 use Rattle.rules.specs.Format.{eraseBlock, eraseChip, emptyStripe, formatSteps}

@@ -6,9 +6,9 @@ use mathlib.Core.Bool.{true, false}
 use lib.Arith.{digits-lt}
 use lib.Pow.{pow-pos}
 use lib.Dec.{eqb}
-use Rattle.units.proofs.Looks.{both, all-true}
-use Rattle.units.proofs.Tests.{cond-same}
-use Rattle.units.proofs.Counts.{count-zero}
+use Rattle.ranges.proofs.Looks.{both, all-true}
+use Rattle.ranges.proofs.Tests.{cond-same}
+use Rattle.ranges.proofs.Counts.{count-zero}
 use Rattle.layout.specs.Layout.{Layout, none, pageIn}
 use Rattle.layout.specs.Rotation.{parityChip}
 use Rattle.layout.specs.Page.{pageAt}
@@ -17,7 +17,7 @@ use Rattle.layout.specs.Collection.{collectionAt}
 use Rattle.layout.specs.Images.{Images}
 use Rattle.layout.proofs.Limits.{Within}
 use Rattle.layout.proofs.Bits.{testBit, test-zero}
-use Rattle.stores.proofs.View.{erased-clean}
+use Rattle.steps.proofs.View.{erased-clean}
 use Rattle.rules.specs.Names.{mainNumber, sideNumber}
 use Rattle.rules.specs.Blocks.{cleanIn, cleanBlock}
 use Rattle.rules.proofs.Soundness.Statements.{RecordSound, RecordsSound, ChipSound, Sound, idle-sound}

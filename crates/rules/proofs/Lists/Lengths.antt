@@ -6,19 +6,19 @@ use mathlib.Core.Bool.{Bool, true, false, cond}
 use mathlib.Core.List.{List, [], _∷_}
 use lib.ListN.{length, length-append}
 use lib.Dec.{eqb}
-use Rattle.units.specs.declared.Found.{Found}
-use Rattle.units.specs.declared.Found.the-variants.{At, Nothing}
-use Rattle.units.specs.Look.{countBelow, whenFound}
-use Rattle.units.proofs.Looks.{by-test}
+use Rattle.ranges.specs.declared.Found.{Found}
+use Rattle.ranges.specs.declared.Found.the-variants.{At, Nothing}
+use Rattle.ranges.specs.Look.{countBelow, whenFound}
+use Rattle.ranges.proofs.Looks.{by-test}
 use Rattle.layout.specs.Layout.{Layout, pageIn}
 use Rattle.layout.specs.Rotation.{parityChip, memberChip, memberOf, stripeOf}
 use Rattle.layout.specs.Page.{pageAt}
 use Rattle.layout.specs.Record.{recordAt}
 use Rattle.layout.specs.Collection.{Collection, collectionAt}
 use Rattle.layout.specs.Images.{Images}
-use Rattle.stores.specs.Store.{program}
-use Rattle.stores.specs.Steps.{Step, plain, applyAll, andThen, thenBelow}
-use Rattle.stores.proofs.Lengths.{length-below, length-then-below}
+use Rattle.steps.specs.Store.{program}
+use Rattle.steps.specs.Steps.{Step, plain, applyAll, andThen, thenBelow}
+use Rattle.steps.proofs.Lengths.{length-below, length-then-below}
 use Rattle.rules.specs.Format.{eraseChip, eraseBlock, emptyStripe, formatSteps}
 use Rattle.rules.specs.Blocks.{namedIn, lowestCleanBlock}
 use Rattle.rules.specs.Collect.{copyOf, copyFrom, copySteps, victimOf, collectSteps}

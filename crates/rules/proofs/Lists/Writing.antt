@@ -8,11 +8,11 @@ use mathlib.Core.List.{List, [], _∷_}
 use lib.ListN.{length}
 use lib.Dec.{eqb}
 use borrow.Author.Tests.{eqb-true, eqb-false}
-use Rattle.units.specs.declared.Found.the-variants.{At}
-use Rattle.units.specs.Look.{countBelow, whenFound}
-use Rattle.units.proofs.Looks.{by-test}
-use Rattle.units.proofs.Tests.{and-both}
-use Rattle.units.proofs.Updates.{at-same}
+use Rattle.ranges.specs.declared.Found.the-variants.{At}
+use Rattle.ranges.specs.Look.{countBelow, whenFound}
+use Rattle.ranges.proofs.Looks.{by-test}
+use Rattle.ranges.proofs.Tests.{and-both}
+use Rattle.ranges.proofs.Updates.{at-same}
 use Rattle.layout.specs.Layout.{Layout}
 use Rattle.layout.specs.Rotation.{memberChip, memberOf, stripeOf}
 use Rattle.layout.specs.Page.{pageAt}
@@ -23,9 +23,9 @@ use Rattle.layout.proofs.Codec.{PageFits}
 use Rattle.layout.proofs.Rotations.{stripe-fits, member-fits, page-chip-fits}
 use Rattle.layout.proofs.Records.{same-slotted}
 use Rattle.layout.proofs.Pages.{none-fits}
-use Rattle.stores.specs.Store.{program, slot, stripe, apply}
-use Rattle.stores.specs.Steps.{plain}
-use Rattle.stores.proofs.Prefixes.{Leads, leads-nil, leads-one, Closes, closes-two, closes-then, closes-leads, closes-weaken}
+use Rattle.steps.specs.Store.{program, slot, stripe, apply}
+use Rattle.steps.specs.Steps.{plain}
+use Rattle.steps.proofs.Prefixes.{Leads, leads-nil, leads-one, Closes, closes-two, closes-then, closes-leads, closes-weaken}
 use Rattle.rules.specs.Write.{commitOwed, owedSteps, dataPage, lowestFreeSlot, newPartial, written, slotSteps, writeAt, writeMember, writeSteps}
 use Rattle.rules.specs.Commit.{commitSteps}
 use Rattle.rules.specs.Place.{placed}

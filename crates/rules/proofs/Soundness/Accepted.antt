@@ -8,10 +8,10 @@ use mathlib.Core.List.{List, [], _∷_, _++_}
 use lib.ListN.{length}
 use lib.Dec.{leb, ltb, eqb}
 use borrow.Author.Tests.{ltb-true, leb-true, eqb-true, lt-ltb, eq-eqb}
-use Rattle.units.specs.Look.{whenFound}
-use Rattle.units.specs.declared.Found.{Found}
-use Rattle.units.specs.declared.Found.the-variants.{At}
-use Rattle.units.proofs.Looks.{both, when-found}
+use Rattle.ranges.specs.Look.{whenFound}
+use Rattle.ranges.specs.declared.Found.{Found}
+use Rattle.ranges.specs.declared.Found.the-variants.{At}
+use Rattle.ranges.proofs.Looks.{both, when-found}
 use Rattle.layout.specs.Layout.{Layout, noChip, limits}
 use Rattle.layout.specs.Page.{pageAt}
 use Rattle.layout.specs.Record.{hasSlot, recordAt}

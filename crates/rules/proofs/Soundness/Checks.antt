@@ -6,8 +6,8 @@ use mathlib.Core.List.{[], _∷_}
 use lib.ListN.{length}
 use lib.Dec.{eqb}
 use borrow.Author.Tests.{eqb-true, eq-eqb}
-use Rattle.units.proofs.Looks.{all-true, all-at}
-use Rattle.units.proofs.Tests.{chain-all, unless-equal, unless-equal-by}
+use Rattle.ranges.proofs.Looks.{all-true, all-at}
+use Rattle.ranges.proofs.Tests.{chain-all, unless-equal, unless-equal-by}
 use Rattle.layout.specs.Layout.{Layout}
 use Rattle.layout.specs.Page.{pageAt}
 use Rattle.layout.specs.Record.{recordAt}

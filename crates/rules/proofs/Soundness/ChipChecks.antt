@@ -7,11 +7,11 @@ use mathlib.Core.Bool.{Bool, true, false, cond, _||_}
 use mathlib.Core.List.{[], _∷_}
 use lib.Dec.{eqb}
 use borrow.Author.Tests.{eqb-true, not-true, eq-eqb}
-use Rattle.units.specs.Look.{allBelow, someBelow, countBelow}
-use Rattle.units.proofs.Looks.{all-true, all-at, some-true, some-at}
-use Rattle.units.proofs.Tests.{and-both, and-left, and-right, both-and, chain-all, cond-by, cond-equal, cond-equal-by, cond-other, cond-true, false-not, under, under-by, unless-equal}
-use Rattle.units.proofs.Tests.{unless-equal-by, cond-false}
-use Rattle.units.proofs.Counts.{count-one, one-count}
+use Rattle.ranges.specs.Look.{allBelow, someBelow, countBelow}
+use Rattle.ranges.proofs.Looks.{all-true, all-at, some-true, some-at}
+use Rattle.ranges.proofs.Tests.{and-both, and-left, and-right, both-and, chain-all, cond-by, cond-equal, cond-equal-by, cond-other, cond-true, false-not, under, under-by, unless-equal}
+use Rattle.ranges.proofs.Tests.{unless-equal-by, cond-false}
+use Rattle.ranges.proofs.Counts.{count-one, one-count}
 use Rattle.layout.specs.Layout.{Layout, none, pageIn}
 use Rattle.layout.specs.Page.{Page}
 use Rattle.layout.specs.Record.{Record}

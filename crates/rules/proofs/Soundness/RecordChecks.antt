@@ -8,10 +8,10 @@ use mathlib.Core.Bool.{Bool, true, false, not, cond, _&&_, _||_, and-false}
 use mathlib.Core.List.{List, [], _∷_}
 use lib.Dec.{leb, ltb, eqb}
 use borrow.Author.Tests.{ltb-true, ltb-false, leb-true, eqb-true, eqb-false, not-true, lt-ltb, le-ltb, le-leb, eq-eqb, ne-eqb}
-use Rattle.units.specs.Look.{allBelow, someBelow, countBelow}
-use Rattle.units.proofs.Looks.{all-true, all-at, some-false, some-none}
-use Rattle.units.proofs.Tests.{chain, AllTrue, and-both, both-and, chain-all, cond-equal, cond-equal-by, cond-other, differ, false-not, or-by, under, under-by}
-use Rattle.units.proofs.Tests.{unless-equal, unless-equal-by, differ-by, or-else}
+use Rattle.ranges.specs.Look.{allBelow, someBelow, countBelow}
+use Rattle.ranges.proofs.Looks.{all-true, all-at, some-false, some-none}
+use Rattle.ranges.proofs.Tests.{chain, AllTrue, and-both, both-and, chain-all, cond-equal, cond-equal-by, cond-other, differ, false-not, or-by, under, under-by}
+use Rattle.ranges.proofs.Tests.{unless-equal, unless-equal-by, differ-by, or-else}
 use Rattle.layout.specs.Layout.{Layout, none, isNone, pages}
 use Rattle.layout.specs.Record.{Record, bit, noSlot, slotted, slotOf}
 use Rattle.layout.specs.Collection.{Collection}

@@ -6,7 +6,7 @@ use mathlib.Core.Logic.{_≢_}
 use mathlib.Core.Bool.{true, false, and-false}
 use lib.ListN.{length}
 use borrow.Author.Tests.{ne-eqb}
-use Rattle.units.specs.Look.{countBelow}
+use Rattle.ranges.specs.Look.{countBelow}
 use Rattle.layout.specs.Layout.{Layout, noChip, none, pages, pageIn}
 use Rattle.layout.specs.Page.{Page, pageAt}
 use Rattle.layout.specs.Record.{Record, bit, noSlot, slotted, recordAt}

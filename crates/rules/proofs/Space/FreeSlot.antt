@@ -6,10 +6,10 @@ use mathlib.Core.Logic.{_≢_}
 use mathlib.Core.Bool.{true, false, not, cond}
 use lib.Dec.{eqb, ltb}
 use borrow.Author.Tests.{lt-ltb, le-ltb, ne-eqb, eqb-true, not-false}
-use Rattle.units.specs.declared.Found.the-variants.{At}
-use Rattle.units.specs.Look.{countBelow}
-use Rattle.units.proofs.Looks.{by-test, by-order, by-three, by-same, some-cong, some-false, first-at, first-is, first-cong}
-use Rattle.units.proofs.Counts.{count-cong}
+use Rattle.ranges.specs.declared.Found.the-variants.{At}
+use Rattle.ranges.specs.Look.{countBelow}
+use Rattle.ranges.proofs.Looks.{by-test, by-order, by-three, by-same, some-cong, some-false, first-at, first-is, first-cong}
+use Rattle.ranges.proofs.Counts.{count-cong}
 use Rattle.layout.specs.Layout.{Layout}
 use Rattle.layout.specs.Record.{Record, noSlot, slotted, slotOf}
 use Rattle.layout.specs.Collection.{Collection}

@@ -5,11 +5,11 @@ use mathlib.Core.Path.{_≡_}
 use mathlib.Core.Logic.{_≢_}
 use mathlib.Core.Bool.{true, false, not}
 use borrow.Author.Tests.{le-leb, lt-leb, not-true, not-false}
-use Rattle.units.specs.declared.Found.the-variants.{At, Nothing}
-use Rattle.units.specs.Look.{countBelow, firstBelow, whenFound}
-use Rattle.units.proofs.Looks.{by-test, by-order, by-found, both, all-at, all-false, first-at, first-found, first-nothing}
-use Rattle.units.proofs.Tests.{and-both}
-use Rattle.units.proofs.Counts.{count-found, count-two}
+use Rattle.ranges.specs.declared.Found.the-variants.{At, Nothing}
+use Rattle.ranges.specs.Look.{countBelow, firstBelow, whenFound}
+use Rattle.ranges.proofs.Looks.{by-test, by-order, by-found, both, all-at, all-false, first-at, first-found, first-nothing}
+use Rattle.ranges.proofs.Tests.{and-both}
+use Rattle.ranges.proofs.Counts.{count-found, count-two}
 use Rattle.layout.specs.Layout.{Layout, pageIn}
 use Rattle.layout.specs.Page.{Page}
 use Rattle.rules.specs.Blocks.{cleanIn, usedIn, cleanBlock, fullBlock, lowestCleanBlock}

@@ -7,12 +7,12 @@ use mathlib.Core.Logic.{_≢_}
 use mathlib.Core.Bool.{true, false, not, cond}
 use lib.Dec.{eqb}
 use borrow.Author.Tests.{ne-eqb, eqb-true, eqb-false, not-true, not-false}
-use Rattle.units.specs.declared.Found.the-variants.{At, Nothing}
-use Rattle.units.specs.Look.{someBelow, countBelow, firstBelow, whenFound}
-use Rattle.units.proofs.Looks.{by-test, by-found, both, not-found, some-at, some-none, first-at, first-found, first-nothing, least-at, least-found, least-nothing}
-use Rattle.units.proofs.Tests.{and-both}
-use Rattle.units.proofs.Units.{apart, one-less}
-use Rattle.units.proofs.Counts.{count-le, count-found, count-two, count-other, count-grows, count-same, all-into, past, past-one, past-fits, past-apart}
+use Rattle.ranges.specs.declared.Found.the-variants.{At, Nothing}
+use Rattle.ranges.specs.Look.{someBelow, countBelow, firstBelow, whenFound}
+use Rattle.ranges.proofs.Looks.{by-test, by-found, both, not-found, some-at, some-none, first-at, first-found, first-nothing, least-at, least-found, least-nothing}
+use Rattle.ranges.proofs.Tests.{and-both}
+use Rattle.bytes.proofs.Units.{apart, one-less}
+use Rattle.ranges.proofs.Counts.{count-le, count-found, count-two, count-other, count-grows, count-same, all-into, past, past-one, past-fits, past-apart}
 use Rattle.layout.specs.Layout.{Layout, pages, pageIn}
 use Rattle.layout.specs.Page.{Page}
 use Rattle.layout.specs.Record.{Record, noSlot, hasSlot, slotted, slotOf}

@@ -6,12 +6,12 @@ use mathlib.Core.Path.{_≡_, refl, sym, _∙_}
 use mathlib.Core.Logic.{_≢_}
 use mathlib.Core.Bool.{true, false}
 use borrow.Author.Tests.{eqb-true}
-use Rattle.units.specs.Look.{countBelow}
-use Rattle.units.specs.Update.{at}
-use Rattle.units.proofs.Looks.{by-test, both, all-true, all-at}
-use Rattle.units.proofs.Numbers.{pow-positive}
-use Rattle.units.proofs.Updates.{at-same, at-other, by-at}
-use Rattle.units.proofs.Tests.{differ}
+use Rattle.ranges.specs.Look.{countBelow}
+use Rattle.ranges.specs.Update.{at}
+use Rattle.ranges.proofs.Looks.{by-test, both, all-true, all-at}
+use Rattle.bytes.proofs.Numbers.{pow-positive}
+use Rattle.ranges.proofs.Updates.{at-same, at-other, by-at}
+use Rattle.ranges.proofs.Tests.{differ}
 use Rattle.layout.specs.Layout.{Layout, none, pageIn, inBlock, recordBytes}
 use Rattle.layout.specs.Page.{Page, cleanKind, clean}
 use Rattle.layout.specs.Record.{Record, noSlot, slotted, restBytes}
@@ -20,7 +20,7 @@ use Rattle.layout.proofs.Codec.{RecordFits, CollectionFits}
 use Rattle.layout.proofs.Records.{SixMembers}
 use Rattle.layout.proofs.Pages.{same-place, in-own-block, in-other-block, place-in}
 use Rattle.layout.proofs.Pages.{none-fits}
-use Rattle.stores.proofs.View.{wiped, erased-clean}
+use Rattle.steps.proofs.View.{wiped, erased-clean}
 use Rattle.rules.specs.Names.{mainNumber, sideNumber, names, named}
 use Rattle.rules.specs.Blocks.{cleanIn, cleanBlock}
 use Rattle.rules.specs.Sound.{collecting}

@@ -4,8 +4,8 @@ use mathlib.Core.Path.{_≡_, refl, ap, _∙_}
 use mathlib.Core.Logic.{_≢_}
 use mathlib.Core.Bool.{true, false}
 use borrow.Author.Tests.{eqb-false}
-use Rattle.units.specs.Look.{countBelow}
-use Rattle.units.proofs.Looks.{by-test, both}
+use Rattle.ranges.specs.Look.{countBelow}
+use Rattle.ranges.proofs.Looks.{by-test, both}
 use Rattle.layout.specs.Layout.{Layout, none, isNone, pageIn}
 use Rattle.layout.specs.Page.{Page, pageAt}
 use Rattle.layout.specs.Record.{Record, hasSlot, recordAt}

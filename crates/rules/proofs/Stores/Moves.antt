@@ -4,8 +4,8 @@ use native.Mathlib.Omega.{arith}
 use mathlib.Core.Path.{_≡_, refl, _∙_}
 use mathlib.Core.Logic.{_≢_}
 use mathlib.Core.Bool.{true, false}
-use Rattle.units.specs.Update.{at}
-use Rattle.units.proofs.Looks.{by-same}
+use Rattle.ranges.specs.Update.{at}
+use Rattle.ranges.proofs.Looks.{by-same}
 use Rattle.layout.specs.Layout.{Layout, pageIn}
 use Rattle.layout.specs.Page.{Page, pageAt}
 use Rattle.layout.specs.Record.{Record, bytesOfRecord, recordAt}
@@ -13,8 +13,8 @@ use Rattle.layout.specs.Collection.{Collection, collectionAt}
 use Rattle.layout.specs.Images.{Images}
 use Rattle.layout.proofs.Codec.{length-record}
 use Rattle.layout.proofs.Records.{SixMembers, six-members}
-use Rattle.stores.specs.Store.{apply}
-use Rattle.stores.proofs.View.{length-recorded}
+use Rattle.steps.specs.Store.{apply}
+use Rattle.steps.proofs.View.{length-recorded}
 use Rattle.rules.specs.Names.{named}
 use Rattle.rules.specs.Open.{due, moveStep, repointed}
 use Rattle.rules.proofs.Soundness.Statements.{Usable, RecordSound, ChipSound, Sound, sound-chip}

@@ -6,10 +6,10 @@ use mathlib.Core.Logic.{_≢_}
 use mathlib.Core.Bool.{true, false, and-false}
 use lib.Dec.{eqb}
 use borrow.Author.Tests.{eq-eqb, ne-eqb}
-use Rattle.units.specs.Update.{at}
-use Rattle.units.proofs.Looks.{both, some-cong, by-same}
-use Rattle.units.proofs.Updates.{by-at}
-use Rattle.units.proofs.Counts.{count-cong, Loses, ranks-stay}
+use Rattle.ranges.specs.Update.{at}
+use Rattle.ranges.proofs.Looks.{both, some-cong, by-same}
+use Rattle.ranges.proofs.Updates.{by-at}
+use Rattle.ranges.proofs.Counts.{count-cong, Loses, ranks-stay}
 use Rattle.layout.specs.Layout.{Layout, none, isNone, pages, pageIn, inBlock}
 use Rattle.layout.specs.Page.{Page}
 use Rattle.layout.specs.Record.{Record, slotted}

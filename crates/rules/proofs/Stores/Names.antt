@@ -6,8 +6,8 @@ use mathlib.Core.Logic.{_≢_}
 use mathlib.Core.Bool.{true, false}
 use lib.Dec.{eqb}
 use borrow.Author.Tests.{eq-eqb, ne-eqb, eqb-true}
-use Rattle.units.proofs.Looks.{by-test, both, all-at, some-true, some-at, some-false}
-use Rattle.units.proofs.Tests.{or-right}
+use Rattle.ranges.proofs.Looks.{by-test, both, all-at, some-true, some-at, some-false}
+use Rattle.ranges.proofs.Tests.{or-right}
 use Rattle.layout.specs.Layout.{Layout, none, pageIn}
 use Rattle.layout.specs.Rotation.{parityChip, memberChip, memberOn}
 use Rattle.layout.specs.Page.{Page, dataKind, parityKind, clean}

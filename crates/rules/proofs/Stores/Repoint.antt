@@ -4,8 +4,8 @@ use mathlib.Core.Path.{_≡_, refl, sym, _∙_}
 use mathlib.Core.Logic.{_≢_}
 use lib.Dec.{eqb}
 use borrow.Author.Tests.{eqb-true, eqb-false, eq-eqb, ne-eqb}
-use Rattle.units.proofs.Looks.{by-test, by-same}
-use Rattle.units.proofs.Updates.{at-same, at-other}
+use Rattle.ranges.proofs.Looks.{by-test, by-same}
+use Rattle.ranges.proofs.Updates.{at-same, at-other}
 use Rattle.layout.specs.Layout.{Layout, none, pages}
 use Rattle.layout.specs.Rotation.{parityChip, memberOn}
 use Rattle.layout.specs.Record.{Record}

@@ -7,9 +7,9 @@ use mathlib.Core.Logic.{_≢_}
 use mathlib.Core.Bool.{true, false}
 use mathlib.Core.List.{List}
 use lib.ListN.{length}
-use Rattle.units.specs.Look.{countBelow}
-use Rattle.units.specs.Update.{at}
-use Rattle.units.proofs.Updates.{at-same, at-other, by-at}
+use Rattle.ranges.specs.Look.{countBelow}
+use Rattle.ranges.specs.Update.{at}
+use Rattle.ranges.proofs.Updates.{at-same, at-other, by-at}
 use Rattle.layout.specs.Layout.{Layout, none, pages, pageIn}
 use Rattle.layout.specs.Page.{Page, cleanKind, pageAt}
 use Rattle.layout.specs.Record.{Record, noSlot, slotted, recordAt, bytesOfRecord}
@@ -18,9 +18,9 @@ use Rattle.layout.specs.Images.{Images, chipsLength, recordsLength, slotAt}
 use Rattle.layout.proofs.Codec.{PageFits, length-record, length-collection}
 use Rattle.layout.proofs.Records.{SixMembers}
 use Rattle.layout.proofs.Pages.{page-in-fits}
-use Rattle.stores.specs.Store.{program, erase, slot, stripe, collection, programmed, erased, recorded, apply}
-use Rattle.stores.proofs.View.{wiped, length-programmed, page-programmed, length-erased, page-erased, length-recorded, record-stored, collection-stays}
-use Rattle.stores.proofs.View.{collection-stored, records-stay, length-slotted, slot-stored}
+use Rattle.steps.specs.Store.{program, erase, slot, stripe, collection, programmed, erased, recorded, apply}
+use Rattle.steps.proofs.View.{wiped, length-programmed, page-programmed, length-erased, page-erased, length-recorded, record-stored, collection-stays}
+use Rattle.steps.proofs.View.{collection-stored, records-stay, length-slotted, slot-stored}
 use Rattle.rules.specs.Names.{mainNumber, sideNumber, names, named}
 use Rattle.rules.specs.Blocks.{cleanBlock}
 use Rattle.rules.specs.Sound.{collecting}

@@ -5,7 +5,7 @@ use mathlib.Core.Bool.{Bool, true, false}
 use mathlib.Core.List.{[], _∷_}
 use lib.Dec.{eqb}
 use borrow.Author.Tests.{eq-eqb, eqb-true, not-true}
-use Rattle.units.proofs.Tests.{chain-all}
+use Rattle.ranges.proofs.Tests.{chain-all}
 use Rattle.layout.specs.Layout.{Layout, pageIn, inBlock}
 use Rattle.layout.specs.Page.{Page, pageAt}
 use Rattle.layout.specs.Record.{Record, recordAt}

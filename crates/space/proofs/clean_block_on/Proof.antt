@@ -4,9 +4,9 @@ use native.Mathlib.Numerals.{add-one}
 use native.Mathlib.Omega.{arith}
 use mathlib.Core.Path.{_≡_, sym, _∙_}
 use mathlib.Core.Bool.{Bool}
-use Rattle.units.specs.declared.Found.the-variants.{Nothing}
-use Rattle.units.specs.Look.{firstBelow}
-use Rattle.units.proofs.Looks.{first-start, first-not-here, first-nothing, first-is}
+use Rattle.ranges.specs.declared.Found.the-variants.{Nothing}
+use Rattle.ranges.specs.Look.{firstBelow}
+use Rattle.ranges.proofs.Looks.{first-start, first-not-here, first-nothing, first-is}
 use Rattle.layout.specs.Layout.{layoutOf}
 use Rattle.layout.specs.Page.{pageAt}
 use Rattle.rules.specs.Blocks.{cleanBlock, lowestCleanBlock}

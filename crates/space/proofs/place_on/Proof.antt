@@ -6,9 +6,9 @@ use native.Mathlib.Omega.{arith}
 use mathlib.Core.Path.{_≡_, sym, _∙_}
 use mathlib.Core.Logic.{⊎-elim}
 use borrow.Author.Needs.{needs}
-use Rattle.units.specs.declared.Found.the-variants.{Nothing}
-use Rattle.units.specs.Look.{firstBelow}
-use Rattle.units.proofs.Looks.{first-not-here}
+use Rattle.ranges.specs.declared.Found.the-variants.{Nothing}
+use Rattle.ranges.specs.Look.{firstBelow}
+use Rattle.ranges.proofs.Looks.{first-not-here}
 use Rattle.layout.specs.Layout.{layoutOf}
 use Rattle.layout.specs.Page.{pageAt}
 use Rattle.rules.specs.Blocks.{cleanIn}

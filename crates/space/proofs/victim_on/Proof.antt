@@ -1,7 +1,7 @@
 -- None where there is a place; else what the scan of the chip has found.
 use mathlib.Core.Path.{_∙_}
 use borrow.Author.Needs.{needs}
-use Rattle.units.specs.Look.{whenFound}
+use Rattle.ranges.specs.Look.{whenFound}
 use Rattle.space.specs.Victims.{victimWanted}
 use Rattle.space.proofs.Victims.{victim-found}
 use Rattle.space.proofs.victim_on.Statement.{statement}

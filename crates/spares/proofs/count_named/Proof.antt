@@ -8,9 +8,9 @@ use mathlib.Core.Bool.{Bool}
 use mathlib.Core.List.{List}
 use mathlib.Core.Logic.{⊎-elim}
 use lib.ListN.{getD}
-use Rattle.units.specs.Look.{countBelow}
-use Rattle.units.proofs.Counts.{count-start, count-le, count-cong}
-use Rattle.units.proofs.Tallies.{count-more}
+use Rattle.ranges.specs.Look.{countBelow}
+use Rattle.ranges.proofs.Counts.{count-start, count-le, count-cong}
+use Rattle.ranges.proofs.Tallies.{count-more}
 use Rattle.layout.specs.Layout.{layoutOf}
 use Rattle.layout.specs.Record.{recordAt}
 use Rattle.layout.specs.Images.{recordsLength}

@@ -6,7 +6,7 @@ use mathlib.Core.Path.{_≡_, sym, _∙_}
 use mathlib.Core.Logic.{_≢_, ⊎-elim}
 use borrow.Author.Needs.{needs}
 use borrow.Author.Tests.{lt-ltb, le-ltb}
-use Rattle.units.proofs.Looks.{by-same}
+use Rattle.ranges.proofs.Looks.{by-same}
 use Rattle.layout.specs.Layout.{layoutOf}
 use Rattle.layout.specs.Rotation.{parityChip, memberOn}
 use Rattle.layout.proofs.Limits.{within}

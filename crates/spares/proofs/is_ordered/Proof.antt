@@ -4,7 +4,7 @@ use Prim.Native.Nat.{_-_, _≤_, _<_}
 use native.Mathlib.Numerals.{add-one}
 use native.Mathlib.Omega.{arith}
 use mathlib.Core.Path.{_≡_, refl, _∙_}
-use Rattle.units.specs.Look.{allBelow}
+use Rattle.ranges.specs.Look.{allBelow}
 use Rattle.layout.specs.Layout.{layoutOf}
 use Rattle.layout.proofs.Limits.{within}
 use Rattle.spares.proofs.Scanning.{orderTag, order-tags}

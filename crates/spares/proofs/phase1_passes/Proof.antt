@@ -3,7 +3,7 @@ use Prim.Native.Nat.{_+_, _-_, _*_, _≤_}
 use native.Mathlib.Numerals.{add-one}
 use native.Mathlib.Omega.{arith}
 use mathlib.Core.Path.{_≡_, refl}
-use Rattle.units.specs.Look.{allBelow}
+use Rattle.ranges.specs.Look.{allBelow}
 use Rattle.layout.specs.Layout.{layoutOf}
 use Rattle.layout.specs.Record.{recordAt}
 use Rattle.rules.specs.Blocks.{unnamedIn}

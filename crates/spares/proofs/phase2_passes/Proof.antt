@@ -5,7 +5,7 @@ use native.Mathlib.Omega.{arith}
 use mathlib.Core.Path.{_≡_, refl, sym, _∙_}
 use mathlib.Core.Bool.{and-true}
 use mathlib.Core.Logic.{⊎-elim}
-use Rattle.units.specs.Look.{allBelow}
+use Rattle.ranges.specs.Look.{allBelow}
 use Rattle.layout.specs.Layout.{layoutOf}
 use Rattle.layout.specs.Page.{pageAt}
 use Rattle.layout.specs.Record.{recordAt}

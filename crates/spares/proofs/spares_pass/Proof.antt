@@ -7,7 +7,7 @@ use mathlib.Core.Logic.{⊎-elim}
 use mathlib.Core.Bool.{Bool, true, _&&_, _||_}
 use lib.Dec.{eqb}
 use borrow.Author.Tests.{eq-eqb, ne-eqb, le-leb, lt-leb}
-use Rattle.units.proofs.Tests.{one-fails, none-fails}
+use Rattle.ranges.proofs.Tests.{one-fails, none-fails}
 use Rattle.layout.specs.Layout.{layoutOf}
 use Rattle.layout.specs.Page.{pageAt}
 use Rattle.layout.specs.Record.{recordAt}

@@ -5,13 +5,13 @@ use native.Mathlib.Omega.{arith}
 use mathlib.Core.Path.{_≡_, refl, sym}
 use mathlib.Core.Bool.{Bool}
 use mathlib.Core.Logic.{⊎-elim}
-use Rattle.units.specs.Look.{countBelow}
-use Rattle.units.proofs.Counts.{count-le}
+use Rattle.ranges.specs.Look.{countBelow}
+use Rattle.ranges.proofs.Counts.{count-le}
 use Rattle.layout.specs.Layout.{layoutOf, pageIn}
 use Rattle.layout.specs.Page.{pageAt}
 use Rattle.layout.specs.Record.{recordAt}
 use Rattle.rules.specs.Sound.{twinIn}
-use Rattle.units.proofs.Tallies.{ones, count-more}
+use Rattle.ranges.proofs.Tallies.{ones, count-more}
 use Rattle.spares.proofs.Scanning.{OnChip, start-low, place-low, twin-test}
 use Rattle.spares.proofs.twins.Statement.{statement}
 use Rattle.spares.proofs.twins.Tie as tie

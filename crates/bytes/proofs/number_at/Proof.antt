@@ -1,0 +1,30 @@
+-- The two calls of `byte` give the digits of the number that the two bytes hold.
+use native.Mathlib.Omega.{arith}
+use borrow.Author.Needs.{needs}
+use Rattle.bytes.proofs.Lists.{number-two}
+use Rattle.bytes.proofs.number_at.Statement.{statement}
+use Rattle.bytes.proofs.number_at.Tie as tie
+
+byte-requires : tie.Need-byte-requires
+byte-requires c κs = search needs
+
+add-byte : tie.Need-add-byte
+add-byte c = search needs
+
+byte-requires-2 : tie.Need-byte-requires-2
+byte-requires-2 c κs = search needs
+
+mul-result : tie.Need-mul-result
+mul-result c = search needs
+
+add-result : tie.Need-add-result
+add-result c = search needs
+
+returns : tie.Need-returns
+returns c =
+    let a = c .before .before .before .args in
+    (rw (c .byte2 .ensures .0, c .before .byte .ensures .0, number-two (a .s .now) (a .a) (omega arith)), omega arith)
+
+pub number-at-spec : {M : Type 1} → statement M
+number-at-spec =
+    tie.close (tie.spec byte-requires add-byte byte-requires-2 mul-result add-result returns)

@@ -1,0 +1,86 @@
+-- The page numbers of the other members, from the code's struct, and that a sound record's are those of pages.
+use Prim.Native.Nat.{ℕ, _≤_, _<_}
+use native.Mathlib.Omega.{arith}
+use mathlib.Core.Path.{_≡_, refl, fun-ext}
+use mathlib.Core.Bool.{Bool, true, false, not, cond, _&&_}
+use mathlib.Core.List.{List}
+use lib.Dec.{eqb}
+use lib.ListN.{length, getD, set, replicate, getD-replicate}
+use lib.Seq.{getD-set-same, getD-set-other}
+use borrow.Author.Tests.{eq-eqb, ne-eqb}
+use Rattle.ranges.proofs.Looks.{both, by-order, by-same}
+use Rattle.ranges.proofs.Tests.{cond-same}
+use Rattle.layout.specs.declared.Geometry.{Geometry}
+use Rattle.layout.specs.Layout.{Layout, layoutOf, none}
+use Rattle.layout.specs.Record.{Record, bit}
+use Rattle.layout.proofs.Limits.{Within}
+use Rattle.layout.proofs.Bits.{testBit}
+use Rattle.layout.proofs.Records.{bits-of-none}
+use Rattle.rules.specs.Read.{othersInside, othersUnderParity}
+use Rattle.rules.proofs.Soundness.Statements.{RecordSound}
+use Rattle.rules.proofs.Data.Parity.{numbered-others-inside, numbered-others-under-parity}
+use Rattle.codec.specs.declared.StripeRecord.{StripeRecord}
+use Rattle.codec.specs.Views.{sixOf, recordFrom}
+use Rattle.fetch.specs.Numbers.{NumbersFit}
+use Rattle.codec.proofs.Encodings.{six-in}
+use Rattle.fetch.proofs.Pages.{six-beyond}
+
+-- ---- numbers from the struct
+
+-- the current page of a member
+pub current-in : (g : Geometry) (e : StripeRecord) {r : Record} (m : ℕ) → recordFrom (layoutOf g) e ≡ r → m < 6 → r .current m ≡ getD (e .current) m 0
+unfolding recordFrom
+current-in g e m q h = rw (← q) (six-in (layoutOf g) (e .current) m h)
+
+module _ (g : Geometry) (i : ℕ) where
+  -- six that are none
+  pub nones : sixOf (layoutOf g) (replicate 6 65535) i ≡ 65535
+  nones = by-order i 6 (λ low. rw (six-in (layoutOf g) (replicate 6 65535) i low) (getD-replicate 6 i 65535 0 low)) (six-beyond g (replicate 6 65535) i)
+
+  -- six without number m
+  without : (xs : List ℕ) (m : ℕ) → length xs ≡ 6 → m < 6 → sixOf (layoutOf g) (set xs m 65535) i ≡ cond (eqb i m) 65535 (sixOf (layoutOf g) xs i)
+  without xs m six h = by-order i 6
+      (λ low. rw (six-in (layoutOf g) (set xs m 65535) i low, six-in (layoutOf g) xs i low) (by-same i m
+      (λ same. rw (eq-eqb i m same, same) (getD-set-same xs m 65535 0 (omega arith)))
+      (λ other. rw (ne-eqb i m other) (getD-set-other xs m i 65535 0 (omega arith)))))
+      (λ high. rw (six-beyond g (set xs m 65535) i high, six-beyond g xs i high, cond-same))
+
+-- the numbers xs that the bitmap chooses are those of the definition, where member m is left out
+module _ (g : Geometry) (e : StripeRecord) (m : ℕ) (six : length (e .current) ≡ 6) (h : m < 6) (xs : List ℕ) where
+  pub inside-chosen :
+      ((i : ℕ) → sixOf (layoutOf g) xs i ≡ cond (testBit (e .bitmap) i) (sixOf (layoutOf g) (set (e .current) m 65535) i) (sixOf (layoutOf g) (replicate 6 65535) i))
+      → sixOf (layoutOf g) xs ≡ othersInside (layoutOf g) m (recordFrom (layoutOf g) e)
+  unfolding othersInside recordFrom bit none
+  inside-chosen chosen = fun-ext λ i.
+      rw (chosen i, without g i (e .current) m six h, nones g i) (one-of (testBit (e .bitmap) i) (eqb i m) (sixOf (layoutOf g) (e .current) i))
+    where
+      one-of : (b s : Bool) (p : ℕ) → cond b (cond s 65535 p) 65535 ≡ cond (b && not s) p 65535
+      one-of true true p = refl
+      one-of true false p = refl
+      one-of false s p = refl
+
+  pub under-chosen :
+      ((i : ℕ) → sixOf (layoutOf g) xs i ≡ cond (testBit (e .bitmap) i) (sixOf (layoutOf g) (e .old) i) (sixOf (layoutOf g) (set (e .current) m 65535) i))
+      → sixOf (layoutOf g) xs ≡ othersUnderParity (layoutOf g) m (recordFrom (layoutOf g) e)
+  unfolding othersUnderParity recordFrom bit none
+  under-chosen chosen = fun-ext λ i. rw (chosen i, without g i (e .current) m six h)
+
+-- ---- a sound record's numbers
+
+module _ (g : Geometry) where
+  -- the layout, of two-byte numbers
+  abbrev l : Layout
+  l = layoutOf g
+
+  -- a record with a bit has a slot
+  pub slot-low : (r : Record) → RecordSound l r → (m : ℕ) → bit r m ≡ true → r .slot ≤ g .m
+  slot-low r s m t = s .slot (λ z. both (bit r m) t (bits-of-none r z m))
+
+  module _ (w : Within l) (r : Record) (s : RecordSound l r) (m : ℕ) where
+    -- six numbers of the others inside may be gathered
+    pub inside-fit : (xs : List ℕ) → sixOf l xs ≡ othersInside l m r → NumbersFit g xs
+    inside-fit xs e = record { fits = λ i h. rw e (numbered-others-inside l w r s m i h) }
+
+    -- so it is with those under the parity
+    pub under-fit : (xs : List ℕ) → sixOf l xs ≡ othersUnderParity l m r → NumbersFit g xs
+    under-fit xs e = record { fits = λ i h. rw e (numbered-others-under-parity l w r s m i h) }

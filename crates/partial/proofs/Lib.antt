@@ -1,0 +1,4 @@
+pub mod Slots
+pub mod Partials
+pub mod Writing
+pub mod Steps

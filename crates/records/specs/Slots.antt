@@ -1,0 +1,45 @@
+-- What the records tell of the slots, and what the pass over them knows on the way.
+use Prim.Native.Nat.{ℕ, _+_, _≤_, _<_}
+use mathlib.Core.Path.{_≡_}
+use mathlib.Core.Bool.{Bool, true, false, not, cond}
+use mathlib.Core.List.{List}
+use lib.ListN.{getD}
+use lib.Dec.{ltb}
+use Rattle.ranges.specs.declared.Found.{Found}
+use Rattle.ranges.specs.declared.Found.the-variants.{At, Nothing}
+use Rattle.ranges.specs.Look.{allBelow, someBelow, countBelow, leastBelow}
+use Rattle.layout.specs.Layout.{Layout}
+use Rattle.layout.specs.Record.{Record, slotted, slotOf}
+use Rattle.rules.specs.Sound.{ownSlot, soundAt}
+use Rattle.rules.specs.Commit.{recordCost, cheapest}
+use Rattle.rules.specs.Write.{lowestFreeSlot}
+use Rattle.codec.specs.declared.StripeRecord.{StripeRecord}
+use Rattle.codec.specs.Views.{recordFrom}
+use Rattle.records.specs.declared.SlotScan.{SlotScan}
+use Rattle.records.specs.declared.Tally.{Tally}
+
+-- how many records have a slot, the cheapest stripe to commit, and the lowest free slot
+abbrev pub slotScan : Layout → (ℕ → Record) → SlotScan
+slotScan l r = record { slotted = countBelow (l .S) (slotted r); cheapest = cheapest l r; free = lowestFreeSlot l r }
+
+-- no cost is as high as 8, which stands for none
+abbrev pub cheapestIn : Tally → Found
+cheapestIn t = cond (ltb (t .least) 8) (At (t .stripe)) Nothing
+
+-- slot i is not marked
+abbrev pub unmarked : List Bool → ℕ → Bool
+unmarked marks i = not (getD marks i false)
+
+-- the tally is that of the records below j
+pub record Tallied (l : Layout) (r : ℕ → Record) (j : ℕ) (t : Tally) : Type 0 where
+  pub sounds : t .sound ≡ allBelow j (soundAt l r)
+  pub owns : t .own ≡ allBelow j (ownSlot r)
+  pub counts : t .slotted ≡ countBelow j (slotted r)
+  pub high : t .least ≤ 8
+  pub some : t .least < 8 → (leastBelow j (slotted r) (recordCost l r) ≡ At (t .stripe)) × (recordCost l r (t .stripe) ≡ t .least)
+  pub nothing : t .least ≡ 8 → leastBelow j (slotted r) (recordCost l r) ≡ Nothing
+
+-- n is t with record j, which is e, whatever the records before it are; taken, where one of them has its slot
+pub record Adds (l : Layout) (j : ℕ) (e : StripeRecord) (taken : Bool) (t n : Tally) : Type 0 where
+  pub adds : (r : ℕ → Record) → recordFrom l e ≡ r j → (slotted r j ≡ true → taken ≡ someBelow j (slotOf r (r j .slot)))
+      → Tallied l r j t → Tallied l r (j + 1) n
