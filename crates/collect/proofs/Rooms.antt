@@ -20,7 +20,8 @@ use Rattle.steps.proofs.Allowances.{ran-then, ran-then-cut, ran-whole}
 use Rattle.rules.specs.Blocks.{lowestCleanBlock}
 use Rattle.rules.specs.Collect.{copySteps, victimOf, collectSteps}
 use Rattle.rules.specs.Open.{finishSteps}
-use Rattle.rules.specs.Place.{placeOf, roomSteps}
+use Rattle.rules.specs.Place.{placeOf}
+use Rattle.rules.specs.Room.{roomSteps}
 use Rattle.rules.proofs.Soundness.Statements.{Sound}
 use Rattle.rules.proofs.Stores.Kept.{Kept}
 use Rattle.rules.proofs.Lists.Copying.{AllCopied, copies-lead}

@@ -29,7 +29,7 @@ ghost use Rattle.layout.specs.Collection.{collectionAt};
 ghost use Rattle.layout.specs.Images.{slotsLength};
 ghost use Rattle.rules.specs.Open.{moved as movedTo, repointed, due, ending, moveSteps, finishSteps};
 ghost use Rattle.rules.specs.Collect.{victimOf, collectSteps};
-ghost use Rattle.rules.specs.Place.{roomSteps};
+ghost use Rattle.rules.specs.Room.{roomSteps};
 ghost use Rattle.steps.specs.Steps.{thenBelow};
 ghost use Rattle.codec.specs.Fit.{ChipsFit, RecordsFit};
 ghost use Rattle.codec.specs.Views.{recordFrom, CollectionIs, SmallRecord};

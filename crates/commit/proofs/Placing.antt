@@ -21,8 +21,9 @@ use Rattle.steps.specs.Steps.{Step}
 use Rattle.steps.specs.Allowance.{Ran, images}
 use Rattle.steps.proofs.Prefixes.{leads-weaken}
 use Rattle.steps.proofs.Allowances.{ran-none, ran-then, ran-then-cut, ran-whole}
-use Rattle.rules.specs.Place.{placeOf, roomSteps, atPlace, placed}
-use Rattle.rules.specs.Write.{lowestFreeSlot}
+use Rattle.rules.specs.Place.{placeOf}
+use Rattle.rules.specs.Room.{roomSteps, atPlace, placed}
+use Rattle.rules.specs.Partial.{lowestFreeSlot}
 use Rattle.rules.specs.Sound.{recordSound}
 use Rattle.rules.proofs.Soundness.Statements.{Usable, Sound, rest-collects}
 use Rattle.rules.proofs.Soundness.RecordChecks.{record-pass}

@@ -12,7 +12,8 @@ use Rattle.layout.specs.Record.{Record, recordAt}
 use Rattle.layout.specs.Images.{Images, slotAt}
 use Rattle.steps.specs.Store.{program, stripe}
 use Rattle.steps.specs.Steps.{plain}
-use Rattle.rules.specs.Commit.{newParity, newParityReads, parityPage, committed, commitAt}
+use Rattle.rules.specs.Parity.{newParity, parityPage, committed, commitAt}
+use Rattle.rules.specs.Commit.{newParityReads}
 use Rattle.codec.specs.Views.{sixOf}
 use Rattle.fetch.proofs.Others.{nones}
 

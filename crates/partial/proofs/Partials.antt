@@ -15,7 +15,8 @@ use Rattle.layout.specs.Page.{Page}
 use Rattle.layout.specs.Record.{bit}
 use Rattle.layout.proofs.Bits.{testBit}
 use Rattle.rules.specs.Gather.{bytesAt, readsAt}
-use Rattle.rules.specs.Write.{newPartial, newPartialReads}
+use Rattle.rules.specs.Partial.{newPartial}
+use Rattle.rules.specs.Write.{newPartialReads}
 use Rattle.codec.specs.declared.StripeRecord.{StripeRecord}
 use Rattle.codec.specs.Views.{recordFrom}
 use Rattle.codec.proofs.Encodings.{six-in}

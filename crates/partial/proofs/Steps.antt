@@ -10,7 +10,8 @@ use Rattle.layout.specs.Record.{Record, recordAt}
 use Rattle.layout.specs.Images.{Images, slotAt}
 use Rattle.steps.specs.Store.{slot, stripe}
 use Rattle.steps.specs.Steps.{plain}
-use Rattle.rules.specs.Write.{lowestFreeSlot, newPartial, newPartialReads, written, slotSteps}
+use Rattle.rules.specs.Partial.{lowestFreeSlot, newPartial, written, slotSteps}
+use Rattle.rules.specs.Write.{newPartialReads}
 
 module _ (l : Layout) (j m : ℕ) (xs : List ℕ) (q : ℕ) (s : Images) where
   -- no slot is free: no store

@@ -20,8 +20,8 @@ use Rattle.layout.specs.Record.{Record, slotted, slotOf}
 use Rattle.layout.specs.Collection.{Collection}
 use Rattle.layout.proofs.Marks.{Marks, marks-none, marks-more, marks-skip}
 use Rattle.rules.specs.Sound.{ownSlot, soundAt, recordsSound, collectionSound}
-use Rattle.rules.specs.Commit.{recordCost, cheapest}
-use Rattle.rules.specs.Write.{freeSlot, lowestFreeSlot}
+use Rattle.rules.specs.Costs.{recordCost, cheapest}
+use Rattle.rules.specs.Partial.{freeSlot, lowestFreeSlot}
 use Rattle.codec.specs.declared.StripeRecord.{StripeRecord}
 use Rattle.codec.specs.Views.{recordFrom, SmallRecord}
 use Rattle.names.specs.Stamps.{recordNames, namesIn}

@@ -11,8 +11,8 @@ use Rattle.ranges.specs.Look.{allBelow, someBelow, countBelow, leastBelow}
 use Rattle.layout.specs.Layout.{Layout}
 use Rattle.layout.specs.Record.{Record, slotted, slotOf}
 use Rattle.rules.specs.Sound.{ownSlot, soundAt}
-use Rattle.rules.specs.Commit.{recordCost, cheapest}
-use Rattle.rules.specs.Write.{lowestFreeSlot}
+use Rattle.rules.specs.Costs.{recordCost, cheapest}
+use Rattle.rules.specs.Partial.{lowestFreeSlot}
 use Rattle.codec.specs.declared.StripeRecord.{StripeRecord}
 use Rattle.codec.specs.Views.{recordFrom}
 use Rattle.records.specs.declared.SlotScan.{SlotScan}

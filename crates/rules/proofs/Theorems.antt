@@ -32,8 +32,10 @@ use Rattle.rules.specs.Format.{formatSteps}
 use Rattle.rules.specs.Open.{openSteps}
 use Rattle.rules.specs.Collect.{victimOf, collectSteps}
 use Rattle.rules.specs.Place.{placeOf}
-use Rattle.rules.specs.Commit.{cheapest, commitSteps}
-use Rattle.rules.specs.Write.{commitOwed, lowestFreeSlot, writeSteps}
+use Rattle.rules.specs.Costs.{cheapest}
+use Rattle.rules.specs.Commit.{commitSteps}
+use Rattle.rules.specs.Partial.{lowestFreeSlot}
+use Rattle.rules.specs.Write.{commitOwed, writeSteps}
 use Rattle.rules.specs.Read.{fetch}
 use Rattle.rules.specs.Calls.{ReadOutcome, Verdict, done, cut, refused, verdict, run, outcome, formatCall, readCall, writeCall}
 use Rattle.rules.specs.Demand.{Demand3}

@@ -4,7 +4,8 @@ use mathlib.Core.Path.{refl, sym, _∙_}
 use denote.Ref.{now}
 use borrow.Author.Needs.{needs}
 use Rattle.layout.specs.Layout.{layoutOf}
-use Rattle.rules.specs.Commit.{commitAt, commitSteps}
+use Rattle.rules.specs.Parity.{commitAt}
+use Rattle.rules.specs.Commit.{commitSteps}
 use Rattle.collect.proofs.Rooms.{ordered}
 use Rattle.commit.proofs.Placing.{seven, known-victim, record-passes, place-fits, room-settled, room-slotted, placed-cut, placed-at, placed-nowhere, placed-on}
 use Rattle.commit.proofs.commit_stripe.Statement.{statement}

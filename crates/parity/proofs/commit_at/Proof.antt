@@ -10,7 +10,7 @@ use Rattle.layout.specs.Layout.{layoutOf, none}
 use Rattle.layout.proofs.Limits.{Within, within}
 use Rattle.steps.specs.Allowance.{images}
 use Rattle.steps.proofs.Allowances.{ran-append}
-use Rattle.rules.specs.Commit.{parityPage}
+use Rattle.rules.specs.Parity.{parityPage}
 use Rattle.codec.specs.Views.{recordFrom}
 use Rattle.bytes.proofs.Work.{front-long, front-back}
 use Rattle.parity.proofs.Committing.{commit-list}

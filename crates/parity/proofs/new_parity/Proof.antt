@@ -8,7 +8,9 @@ use borrow.Author.Needs.{needs}
 use Rattle.layout.specs.Layout.{layoutOf, none}
 use Rattle.layout.specs.Images.{slotAt}
 use Rattle.layout.proofs.Limits.{within}
-use Rattle.rules.specs.Commit.{setBits, mostInPartial, currentOutside, oldInside, newParity, newParityReads}
+use Rattle.rules.specs.Costs.{setBits, mostInPartial}
+use Rattle.rules.specs.Parity.{newParity}
+use Rattle.rules.specs.Commit.{currentOutside, oldInside, newParityReads}
 use Rattle.rules.proofs.Soundness.Statements.{RecordSound}
 use Rattle.rules.proofs.Soundness.RecordChecks.{record-sound}
 use Rattle.rules.proofs.Data.Contents.{slot-bits}

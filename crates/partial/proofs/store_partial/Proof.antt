@@ -12,7 +12,7 @@ use Rattle.layout.specs.Record.{recordAt}
 use Rattle.layout.proofs.Limits.{within}
 use Rattle.steps.specs.Allowance.{images}
 use Rattle.steps.proofs.Allowances.{ran-none, ran-append}
-use Rattle.rules.specs.Write.{lowestFreeSlot}
+use Rattle.rules.specs.Partial.{lowestFreeSlot}
 use Rattle.bytes.proofs.Work.{front-long, front-back}
 use Rattle.partial.proofs.Slots.{free-fits}
 use Rattle.partial.proofs.Steps.{steps-none, steps-found}

@@ -7,7 +7,7 @@ use Rattle.ranges.proofs.Tests.{differ-by}
 use Rattle.layout.specs.Layout.{layoutOf}
 use Rattle.layout.specs.Record.{Record}
 use Rattle.rules.specs.Sound.{recordSound, soundAt}
-use Rattle.rules.specs.Commit.{recordCost}
+use Rattle.rules.specs.Costs.{recordCost}
 use Rattle.codec.specs.Views.{recordFrom}
 use Rattle.costs.proofs.Costs.{cost-is}
 use Rattle.records.proofs.Tables.{tallied-bare, tallied-takes, tallied-stays}

@@ -20,13 +20,14 @@ use Rattle.layout.proofs.Rotations.{stripe-fits}
 use Rattle.steps.specs.declared.Counts.{Counts}
 use Rattle.rules.specs.declared.Reading.the-variants.{Done as ReadDone}
 use Rattle.rules.specs.Refusals.{lostNamed}
-use Rattle.rules.specs.Read.{Fetched, fetch}
+use Rattle.rules.specs.Fetch.{Fetched, underParity}
+use Rattle.rules.specs.Read.{fetch}
 use Rattle.rules.specs.Calls.{ReadOutcome, readCall}
 use Rattle.rules.specs.Book.{Book, finished}
 use Rattle.rules.proofs.Soundness.Statements.{Usable, SoundBut, Sound}
 use Rattle.rules.proofs.Soundness.Accepted.{read-passes}
 use Rattle.rules.proofs.Stores.Kept.{CopiesOf, no-copies-yet}
-use Rattle.rules.proofs.Data.Contents.{Data, bytes-none, gathered-none, underParity}
+use Rattle.rules.proofs.Data.Contents.{Data, bytes-none, gathered-none}
 use Rattle.rules.proofs.Data.Rebuild.{fetch-unwritten, fetch-rebuilt}
 use Rattle.rules.proofs.Data.Carries.{Carries, Wrote}
 use Rattle.rules.proofs.Lists.Fresh.{Fresh}

@@ -3,7 +3,7 @@ use mathlib.Core.Path.{sym, _∙_}
 use denote.Ref.{now}
 use borrow.Author.Needs.{needs}
 use Rattle.layout.specs.Layout.{layoutOf}
-use Rattle.rules.specs.Write.{writeAt}
+use Rattle.rules.specs.Partial.{writeAt}
 use Rattle.collect.proofs.Rooms.{ordered}
 use Rattle.commit.proofs.Placing.{record-passes, place-fits, room-settled, room-free, placed-cut, placed-at, placed-nowhere, placed-on}
 use Rattle.write.proofs.place_member.Statement.{statement}
