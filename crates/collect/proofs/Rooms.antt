@@ -18,7 +18,7 @@ use Rattle.steps.specs.Allowance.{Ran, images}
 use Rattle.steps.proofs.Prefixes.{leads-weaken}
 use Rattle.steps.proofs.Allowances.{ran-then, ran-then-cut, ran-whole}
 use Rattle.rules.specs.Blocks.{lowestCleanBlock}
-use Rattle.rules.specs.Collect.{copySteps, victimOf, collectSteps}
+use Rattle.rules.specs.Collect.{copySteps, copyFeed, victimOf, collectSteps}
 use Rattle.rules.specs.Open.{finishSteps}
 use Rattle.rules.specs.Place.{placeOf}
 use Rattle.rules.specs.Room.{roomSteps}
@@ -40,11 +40,11 @@ module _ {g : Geometry} {x r : List ℕ} (h : Settled g x r) {c v d : ℕ} (chip
     (clean : lowestCleanBlock (layoutOf g) (pageAt (layoutOf g) x c) ≡ At d)
     {p q : Progress} {x₁ r₁ : List ℕ}
     (first : (zs : List ℕ) → length zs ≡ slotsLength (layoutOf g)
-    → Ran (layoutOf g) p (copySteps (layoutOf g) c (pageAt (layoutOf g) x c) (recordAt (layoutOf g) r) v d) q (images x r zs) (images x₁ r₁ zs)) where
+    → Ran (layoutOf g) p (copySteps (layoutOf g) c (pageAt (layoutOf g) x c) (copyFeed (layoutOf g) c (images x r zs)) (recordAt (layoutOf g) r) v d) q (images x r zs) (images x₁ r₁ zs)) where
   abbrev l : Layout
   l = layoutOf g
 
-  collect-then : (zs : List ℕ) → collectSteps l c (images x r zs) ≡ andThen l (copySteps l c (pageAt l x c) (recordAt l r) v d) (finishSteps l) (images x r zs)
+  collect-then : (zs : List ℕ) → collectSteps l c (images x r zs) ≡ andThen l (copySteps l c (pageAt l x c) (copyFeed l c (images x r zs)) (recordAt l r) v d) (finishSteps l) (images x r zs)
   unfolding collectSteps whenFound
   collect-then zs = rw (victim, clean)
 
@@ -55,7 +55,7 @@ module _ {g : Geometry} {x r : List ℕ} (h : Settled g x r) {c v d : ℕ} (chip
       let s = images x r zs in
       let u = usable g x r (h .checked) in
       let f = sound g x r (h .checked) zs e in
-      let copies = copySteps l c (pageAt l x c) (recordAt l r) v d in
+      let copies = copySteps l c (pageAt l x c) (copyFeed l c (images x r zs)) (recordAt l r) v d in
       let whole = ran-whole l p q copies s (images x₁ r₁ zs) (first zs e) going in
       checked g (h .checked .chips-fit .limited) (images x₁ r₁ zs)
       (rw whole
@@ -66,7 +66,7 @@ module _ {g : Geometry} {x r : List ℕ} (h : Settled g x r) {c v d : ℕ} (chip
   pub collect-cut : q .cut ≡ true → (zs : List ℕ) → length zs ≡ slotsLength l → Ran l p (collectSteps l c (images x r zs)) q (images x r zs) (images x₁ r₁ zs)
   collect-cut cut zs e =
       rw (collect-then zs)
-      (ran-then-cut l p q (copySteps l c (pageAt l x c) (recordAt l r) v d) (finishSteps l) (images x r zs) (images x₁ r₁ zs) (first zs e) cut)
+      (ran-then-cut l p q (copySteps l c (pageAt l x c) (copyFeed l c (images x r zs)) (recordAt l r) v d) (finishSteps l) (images x r zs) (images x₁ r₁ zs) (first zs e) cut)
 
   -- and one that is not
   pub collect-ran : {w : Progress} {x₂ r₂ : List ℕ}
@@ -74,7 +74,7 @@ module _ {g : Geometry} {x r : List ℕ} (h : Settled g x r) {c v d : ℕ} (chip
       → (zs : List ℕ) → length zs ≡ slotsLength l → Ran l p (collectSteps l c (images x r zs)) w (images x r zs) (images x₂ r₂ zs)
   collect-ran {w} {x₂} {r₂} second zs e =
       rw (collect-then zs)
-      (ran-then l p q w (copySteps l c (pageAt l x c) (recordAt l r) v d) (finishSteps l) (images x r zs) (images x₁ r₁ zs) (images x₂ r₂ zs)
+      (ran-then l p q w (copySteps l c (pageAt l x c) (copyFeed l c (images x r zs)) (recordAt l r) v d) (finishSteps l) (images x r zs) (images x₁ r₁ zs) (images x₂ r₂ zs)
       (first zs e) (second zs e))
 
 module _ (l : Layout) (s : Images) (c : ℕ) where

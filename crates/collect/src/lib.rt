@@ -31,7 +31,7 @@ ghost use Rattle.rules.specs.Open.{moved as movedTo, repointed, due, ending, mo
 ghost use Rattle.rules.specs.Collect.{victimOf, collectSteps};
 ghost use Rattle.rules.specs.Room.{roomSteps};
 ghost use Rattle.steps.specs.Steps.{thenBelow};
-ghost use Rattle.codec.specs.Fit.{ChipsFit, RecordsFit};
+ghost use Rattle.codec.specs.Fit.{ChipsFit, RecordsFit, SlotsFit};
 ghost use Rattle.codec.specs.Views.{recordFrom, CollectionIs, SmallRecord};
 ghost use Rattle.steps.specs.Allowance.{Sane, Ran, images};
 ghost use Rattle.names.specs.Checked.{Checked, Settled};
@@ -182,20 +182,21 @@ pub fn finish(chips: &mut [u8], records: &mut [u8], g: Geometry, p: Progress) ->
 pub fn collect_chip(
     chips: &mut [u8],
     records: &mut [u8],
+    slots: &[u8],
     g: Geometry,
     c: usize,
     v: usize,
     p: Progress,
 ) -> Progress
     requires { ⌜ Settled g (now chips) (now records) × (c ≤ g .n) × Sane p
-        × (victimOf (layoutOf g) c (pageAt (layoutOf g) (now chips) c) (recordAt (layoutOf g) (now records)) ≡ At v) ⌝ }
+        × (victimOf (layoutOf g) c (pageAt (layoutOf g) (now chips) c) (recordAt (layoutOf g) (now records)) ≡ At v) × SlotsFit g (now slots) ⌝ }
     ensures { λ r. ⌜ ((zs : List ℕ) → length zs ≡ slotsLength (layoutOf g) → Ran (layoutOf g) p
         (collectSteps (layoutOf g) c (images (now (chips .entry)) (now (records .entry)) zs))
         r (images (now (chips .entry)) (now (records .entry)) zs) (images (now (chips .exit)) (now (records .exit)) zs)) ⌝ }
 {
     match clean_block_on(chips, g, c) {
         Found::At(d) => {
-            let run = copy_block(chips, records, g, c, v, d, p);
+            let run = copy_block(chips, records, slots, g, c, v, d, p);
             // past a cut there is no phase 2 to finish
             if run.cut {
                 return run;
@@ -210,12 +211,13 @@ pub fn collect_chip(
 pub fn make_room(
     chips: &mut [u8],
     records: &mut [u8],
+    slots: &[u8],
     g: Geometry,
     c: usize,
     v: Found,
     p: Progress,
 ) -> Progress
-    requires { ⌜ Settled g (now chips) (now records) × (c ≤ g .n) × VictimFor g (now chips) (now records) c v × Sane p ⌝ }
+    requires { ⌜ Settled g (now chips) (now records) × (c ≤ g .n) × VictimFor g (now chips) (now records) c v × Sane p × SlotsFit g (now slots) ⌝ }
     ensures { λ r. ⌜ ((zs : List ℕ) → length zs ≡ slotsLength (layoutOf g) → Ran (layoutOf g) p
         (roomSteps (layoutOf g) c (images (now (chips .entry)) (now (records .entry)) zs))
         r (images (now (chips .entry)) (now (records .entry)) zs) (images (now (chips .exit)) (now (records .exit)) zs)) ⌝ }
@@ -224,7 +226,7 @@ pub fn make_room(
         return p;
     }
     match v {
-        Found::At(b) => collect_chip(chips, records, g, c, b, p),
+        Found::At(b) => collect_chip(chips, records, slots, g, c, b, p),
         Found::Nothing => p,
     }
 }
