@@ -8,7 +8,7 @@ use lib.ListN.{length}
 use Rattle.ranges.specs.declared.Found.the-variants.{At, Nothing}
 use Rattle.ranges.specs.Look.{whenFound}
 use Rattle.layout.specs.declared.Geometry.{Geometry}
-use Rattle.layout.specs.Layout.{Layout, layoutOf}
+use Rattle.layout.specs.Layout.{Layout, layoutOf, noChip}
 use Rattle.layout.specs.Page.{pageAt}
 use Rattle.layout.specs.Record.{recordAt}
 use Rattle.layout.specs.Images.{Images, slotsLength}
@@ -31,7 +31,7 @@ use Rattle.names.proofs.Statements.{some-slots, usable, sound, checked, chip-or
 use Rattle.space.specs.Ordered.{Ordered}
 
 -- the blocks of a chip are in order
-pub ordered : {g : Geometry} {chips records : List ℕ} → Checked g chips records → {c : ℕ} → c ≤ g .n → Ordered g chips c
+pub ordered : {g : Geometry} {chips records : List ℕ} → Checked g noChip chips records → {c : ℕ} → c ≤ g .n → Ordered g chips c
 ordered {g} {chips} {records} h {c} low = record { chips-fit = h .chips-fit; chip = low; order = chip-ordered g chips records h c low }
 
 -- victim and destination are found
@@ -49,7 +49,7 @@ module _ {g : Geometry} {x r : List ℕ} (h : Settled g x r) {c v d : ℕ} (chip
   collect-then zs = rw (victim, clean)
 
   -- where the copies are not cut the images have passed the tests again, in phase 2
-  pub copied-checked : q .cut ≡ false → Checked g x₁ r₁
+  pub copied-checked : q .cut ≡ false → Checked g noChip x₁ r₁
   copied-checked going =
       let (zs, e) = some-slots l in
       let s = images x r zs in

@@ -22,7 +22,7 @@ ghost use mathlib.Core.List.{List};
 ghost use Prim.Native.Nat.{ℕ, _≤_, _<_};
 ghost use lib.ListN.{length};
 ghost use Rattle.ranges.specs.declared.Found.the-variants.{At};
-ghost use Rattle.layout.specs.Layout.{layoutOf, limits, pages};
+ghost use Rattle.layout.specs.Layout.{layoutOf, noChip, limits, pages};
 ghost use Rattle.layout.specs.Page.{pageAt};
 ghost use Rattle.layout.specs.Record.{recordAt};
 ghost use Rattle.layout.specs.Collection.{collectionAt};
@@ -63,7 +63,7 @@ fn repoint(g: Geometry, e: StripeRecord, c: usize, j: usize, p: usize, q: usize)
 
 // Whether page q of the collection's chip holds the copy of a page that is still named in the victim.
 fn is_due(chips: &[u8], records: &[u8], g: Geometry, co: CollectionRecord, q: usize) -> bool
-    requires { ⌜ Checked g (now chips) (now records) × CollectionIs co (collectionAt (layoutOf g) (now records))
+    requires { ⌜ Checked g noChip (now chips) (now records) × CollectionIs co (collectionAt (layoutOf g) (now records))
         × (co .chip ≤ g .n) × (co .victim < g .b) × (q < pages (layoutOf g)) ⌝ }
     ensures { λ r. ⌜ r ≡ due (layoutOf g) (collectionAt (layoutOf g) (now (records .entry))) (pageAt (layoutOf g) (now (chips .entry)) (co .chip)) (recordAt (layoutOf g) (now (records .entry))) q ⌝ }
 {
@@ -92,7 +92,7 @@ fn move_from(
     i: usize,
     p: Progress,
 ) -> Progress
-    requires { ⌜ Checked g (now chips) (now records) × CollectionIs co (collectionAt (layoutOf g) (now records))
+    requires { ⌜ Checked g noChip (now chips) (now records) × CollectionIs co (collectionAt (layoutOf g) (now records))
         × (co .phase ≡ 2) × (i < g .k) × Sane p ⌝ }
     ensures { λ r. ⌜ ((zs : List ℕ) → Ran (layoutOf g) p
         (moveSteps (layoutOf g) (collectionAt (layoutOf g) (now (records .entry))) i (images (now (chips .entry)) (now (records .entry)) zs))
@@ -117,7 +117,7 @@ fn move_all(
     co: CollectionRecord,
     p: Progress,
 ) -> Progress
-    requires { ⌜ Checked g (now chips) (now records) × CollectionIs co (collectionAt (layoutOf g) (now records))
+    requires { ⌜ Checked g noChip (now chips) (now records) × CollectionIs co (collectionAt (layoutOf g) (now records))
         × (co .phase ≡ 2) × Sane p ⌝ }
     ensures { λ r. ⌜ ((zs : List ℕ) → length zs ≡ slotsLength (layoutOf g) → Ran (layoutOf g) p
         (thenBelow (layoutOf g) (g .k) (moveSteps (layoutOf g) (collectionAt (layoutOf g) (now (records .entry)))) (images (now (chips .entry)) (now (records .entry)) zs))
@@ -162,7 +162,7 @@ fn end(
 
 // Finishes the collection that the images are in, if any.
 pub fn finish(chips: &mut [u8], records: &mut [u8], g: Geometry, p: Progress) -> Progress
-    requires { ⌜ Checked g (now chips) (now records) × Sane p ⌝ }
+    requires { ⌜ Checked g noChip (now chips) (now records) × Sane p ⌝ }
     ensures { λ r. ⌜ ((zs : List ℕ) → length zs ≡ slotsLength (layoutOf g) → Ran (layoutOf g) p
         (finishSteps (layoutOf g) (images (now (chips .entry)) (now (records .entry)) zs))
         r (images (now (chips .entry)) (now (records .entry)) zs) (images (now (chips .exit)) (now (records .exit)) zs)) ⌝ }

@@ -19,7 +19,7 @@ use Rattle.rules.specs.declared.Refusal.{Refusal}
 use Rattle.rules.specs.declared.Refusal.the-variants.{LostChip, Records, Spares, Collection}
 use Rattle.rules.specs.declared.Check.{Check}
 use Rattle.rules.specs.declared.Check.the-variants.{Passed, Failed}
-use Rattle.rules.specs.Sound.{recordSound}
+use Rattle.rules.specs.Sound.{recordSound, isLost}
 use Rattle.rules.specs.Refusals.{Row, pageRow, unless, checked, lostNamed, recordsCheck, sparesCheck, atRest, buffersRows, imagesRows, settledRows}
 use Rattle.rules.proofs.Soundness.Table.{by-check, not-passed, rows-passed, below-passed, below-failed, both-passed}
 use Rattle.rules.proofs.Soundness.Accepted.{buffers-accepted, images-accepted, settled-accepted}
@@ -156,16 +156,16 @@ images-fit g s lost e =
       stripe = λ j low. record-pass l (recordAt l (s .records) j) (h .sound .stripes .stripe j low);
     }
 
--- and with no chip lost
-pub images-checked : (g : Geometry) (s : Images) (lost : ℕ) → checked (imagesRows (layoutOf g) s lost) ≡ Passed → lost ≡ noChip → Checked g (s .chips) (s .records)
-images-checked g s lost e none-lost =
+-- and the tests of the images have passed
+pub images-checked : (g : Geometry) (s : Images) (lost : ℕ) → checked (imagesRows (layoutOf g) s lost) ≡ Passed → Checked g lost (s .chips) (s .records)
+images-checked g s lost e =
     let l = layoutOf g in
     let h = images-accepted l s lost e in
     let fit = images-fit g s lost e .fit in
     record {
       chips-fit = fit .chips;
-      records-pass = record { fit = fit .records; pass = records-check-pass l s lost (h .sound) };
-      spares-pass = rw none-lost at (spares-check-pass l s lost (h .sound));
+      records-pass = record { fit = fit .records; pass = records-check-pass l s (isLost lost) (h .sound) };
+      spares-pass = spares-check-pass l s (isLost lost) (h .sound);
     }
 
 -- rows 1 to 6 have passed, and no chip is lost
@@ -180,7 +180,7 @@ store-ready g s lost e none-lost =
     let h = settled-images l s lost e in
     record {
       settled = record {
-        checked = images-checked g s lost h none-lost;
+        checked = rw none-lost at (images-checked g s lost h);
         at-rest = settled-accepted l s lost e none-lost .at-rest;
       };
       slots-fit = images-fit g s lost h .fit .slots;

@@ -23,7 +23,7 @@ ghost use Rattle.layout.specs.Page.{Page, pageAt};
 ghost use Rattle.layout.specs.Record.{Record, recordAt};
 ghost use Rattle.layout.specs.Collection.{collectionAt};
 ghost use Rattle.rules.specs.Blocks.{orderedBlock};
-ghost use Rattle.rules.specs.Sound.{phase1Sound, twinIn, phase2Sound, sparesSound};
+ghost use Rattle.rules.specs.Sound.{isLost, phase1Sound, twinIn, phase2Sound, sparesSound};
 ghost use Rattle.codec.specs.Fit.{ChipsFit, RecordsFit};
 ghost use Rattle.codec.specs.Views.{CollectionIs};
 ghost use Rattle.names.specs.Checked.{RecordsPass};
@@ -460,7 +460,7 @@ fn spares_pass(
     requires { ⌜ ChipsFit g (now chips) × RecordsPass g (now records) × CollectionIs co (collectionAt (layoutOf g) (now records))
         × (names ≡ namesIn (layoutOf g) (recordAt (layoutOf g) (now records)) (g .s))
         × (scans ≡ chipScans (layoutOf g) (recordAt (layoutOf g) (now records)) (pageAt (layoutOf g) (now chips)) lost (g .b)) ⌝ }
-    ensures { λ r. ⌜ r ≡ sparesSound (layoutOf g) (recordAt (layoutOf g) (now (records .entry))) (pageAt (layoutOf g) (now (chips .entry))) (collectionAt (layoutOf g) (now (records .entry))) lost ⌝ }
+    ensures { λ r. ⌜ r ≡ sparesSound (layoutOf g) (recordAt (layoutOf g) (now (records .entry))) (pageAt (layoutOf g) (now (chips .entry))) (collectionAt (layoutOf g) (now (records .entry))) (isLost lost) ⌝ }
 {
     let n = g.n as usize;
     let busy = (co.phase == 1) | (co.phase == 2);

@@ -13,7 +13,7 @@ use Rattle.layout.specs.Page.{pageAt}
 use Rattle.layout.specs.Record.{recordAt}
 use Rattle.layout.specs.Collection.{collectionAt}
 use Rattle.layout.proofs.Limits.{within}
-use Rattle.rules.specs.Sound.{sparesSound}
+use Rattle.rules.specs.Sound.{isLost, sparesSound}
 use Rattle.spares.specs.Scans.{phaseSound}
 use Rattle.names.proofs.Totals.{namesKept, names-le}
 use Rattle.spares.proofs.Scanning.{start-low, scans-at}
@@ -57,7 +57,7 @@ judgement : (c : tie.After-loop Inv-loop μ-loop)
     → let a = c .before .before .before .before .before .before .before .args in
     let l = layoutOf (a .g) in
     eqb (c .before .loop .named) (c .before .before .if1 .kept) && c .before .loop .shaped && collected c
-    ≡ sparesSound l (recordAt l (a .records .now)) (pageAt l (a .chips .now)) (collectionAt l (a .records .now)) (a .lost)
+    ≡ sparesSound l (recordAt l (a .records .now)) (pageAt l (a .chips .now)) (collectionAt l (a .records .now)) (isLost (a .lost))
 judgement c =
     let s = c .before .before .before .before .before .before .before in
     verdict (s .pre .1) (s .pre .2) (s .pre .0) (c .before .loop .inv .1) (last c) (kept-is (c .before .before))
