@@ -168,6 +168,9 @@ images-checked g s lost e =
       spares-pass = spares-check-pass l s (isLost lost) (h .sound);
     }
 
+pub at-no-chip : {g : Geometry} {lost : ℕ} {chips records : List ℕ} → lost ≡ noChip → Checked g lost chips records → Checked g noChip chips records
+at-no-chip none-lost h = rw none-lost at h
+
 -- rows 1 to 6 have passed, and no chip is lost
 pub record StoreReady (g : Geometry) (s : Images) : Type 0 where
   pub settled : Settled g (s .chips) (s .records)
@@ -180,7 +183,7 @@ store-ready g s lost e none-lost =
     let h = settled-images l s lost e in
     record {
       settled = record {
-        checked = rw none-lost at (images-checked g s lost h);
+        checked = at-no-chip none-lost (images-checked g s lost h);
         at-rest = settled-accepted l s lost e none-lost .at-rest;
       };
       slots-fit = images-fit g s lost h .fit .slots;

@@ -110,7 +110,7 @@ fn place_member(
         r (images (now (chips .entry)) (now (records .entry)) (now (slots .entry))) (images (now (chips .exit)) (now (records .exit)) (now (slots .exit))) ⌝ }
 {
     let c = member_chip(g, j, m);
-    let run = make_room(chips, records, g, c, v, p);
+    let run = make_room(chips, records, slots, g, c, v, p);
     // past a cut there may be no place yet
     if run.cut {
         return run;

@@ -27,7 +27,7 @@ make-room-requires : tie.Need-make-room-requires
 make-room-requires c κs =
     let h = c .before .before .before .before .before .before .before .before .pre in
     let on = c .before .before .before .before .parity-chip .ensures in
-    (h .0, on .1, known-victim (h .5) (on .1) refl (c .victim-in .ensures), h .3)
+    (h .0, on .1, known-victim (h .5) (on .1) refl (c .victim-in .ensures), h .3, h .1)
 
 same-length : tie.Need-same-length
 same-length c = search needs
