@@ -1,4 +1,4 @@
--- Page numbers that fit, what the loops over a block and over a chip have found so far, and the test of a twin.
+-- Page numbers that fit, and what the loops over a block and over a chip have found so far.
 use Prim.Native.Nat.{ℕ, zero, suc, _+_, _-_, _*_, _%_, _≤_, _<_}
 use native.Mathlib.Nat.{suc-mul, zero-mul, mul-le-mul-right, le-refl}
 use native.Mathlib.Numerals.{add-one}
@@ -23,11 +23,7 @@ use Rattle.layout.specs.Page.{Page}
 use Rattle.layout.specs.Record.{Record}
 use Rattle.layout.proofs.Limits.{within}
 use Rattle.layout.proofs.Pages.{page-in-fits}
-use Rattle.rules.specs.Names.{named as namedPage}
 use Rattle.rules.specs.Blocks.{cleanIn, usedIn, inOrder, cleanBlock, fullBlock, orderedBlock}
-use Rattle.rules.specs.Sound.{twin}
-use Rattle.codec.specs.declared.Spare.{Spare}
-use Rattle.codec.specs.Views.{spareOf}
 use Rattle.names.specs.Stamps.{byStamp}
 use Rattle.ranges.proofs.Tallies.{count-from}
 use Rattle.spares.specs.declared.Scan.{Scan}
@@ -242,12 +238,3 @@ unfolding chipScans
 all-start l r y lost {s} h = ext-getD unscanned (replicate 7 s) (chipScans l r y lost 0) refl (λ i low.
     getD-replicate 7 i s unscanned low ∙ h i
     ∙ sym (at-seven (scanOf l r y lost 0) i low ∙ rw (cond-same (eqb i lost || ltb (l .N) i) 0)))
-
--- ---- twins
-
--- the test of a twin as the code makes it: t and u are the spare bytes of pages p and q, and n says whether q is named
-pub twin-test : (l : Layout) (r : ℕ → Record) (x : ℕ → Page) (c p q : ℕ) {t u : Spare} {n : Bool}
-    → t ≡ spareOf (x p) → u ≡ spareOf (x q) → n ≡ namedPage l r c q
-    → eqb (u .kind) (t .kind) && eqb (u .member) (t .member) && eqb (u .stripe) (t .stripe) && eqb (u .copied) p && not n ≡ twin l r x c p q
-unfolding twin
-twin-test l r x c p q e f g = rw (e, f, g)

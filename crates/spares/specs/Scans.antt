@@ -16,7 +16,7 @@ use Rattle.layout.specs.Collection.{Collection}
 use Rattle.layout.specs.Rotation.{parityChip, memberOn}
 use Rattle.rules.specs.Names.{kindOn, memberByte}
 use Rattle.rules.specs.Blocks.{cleanBlock, fullBlock, orderedBlock}
-use Rattle.rules.specs.Sound.{phase1Sound, phase2Sound, sparesSound}
+use Rattle.rules.specs.Sound.{sparesSound}
 use Rattle.names.specs.Stamps.{byStamp}
 use Rattle.spares.specs.declared.Scan.{Scan}
 use Rattle.spares.specs.declared.ChipScan.{ChipScan}
@@ -118,9 +118,3 @@ module _ (l : Layout) where
   -- with whether the spares are sound
   abbrev pub survey : (ℕ → Record) → (ℕ → ℕ → Page) → Collection → ℕ → Survey
   survey r y co lost = record { sound = sparesSound l r y co lost; chips = chipScans r y lost B }
-
-  -- what a collection under way asks of its chip, with the chip's pages x
-  unfoldable pub phaseSound : (ℕ → Record) → (ℕ → Page) → Collection → Bool
-  phaseSound r x co =
-      cond (eqb (co .phase) 1) (phase1Sound l r (co .chip) (co .destination))
-      (cond (eqb (co .phase) 2) (phase2Sound l r x (co .chip) (co .victim) (co .destination)) true)

@@ -1,15 +1,16 @@
 //! The checks of the spare bytes.
 
+pub mod phase;
+
 use bytes::byte;
 use bytes::number_at;
 use codec::CollectionRecord;
 use codec::DATA;
 use codec::PARITY;
 use codec::page_offset;
-use codec::spare_at;
 use layout::Geometry;
-use names::named_at;
 use names::names_on;
+use phase::phase_passes;
 ghost use mathlib.Core.Path.{_≡_};
 ghost use mathlib.Core.Bool.{true};
 ghost use mathlib.Core.List.{List};
@@ -18,17 +19,17 @@ ghost use mathlib.Core.Logic.{_≢_};
 ghost use lib.ListN.{length, getD};
 ghost use lib.Dec.{eqb};
 ghost use Rattle.ranges.specs.Look.{countBelow};
-ghost use Rattle.layout.specs.Layout.{layoutOf, limits, pages};
+ghost use Rattle.layout.specs.Layout.{layoutOf, limits};
 ghost use Rattle.layout.specs.Page.{Page, pageAt};
 ghost use Rattle.layout.specs.Record.{Record, recordAt};
 ghost use Rattle.layout.specs.Collection.{collectionAt};
 ghost use Rattle.rules.specs.Blocks.{orderedBlock};
-ghost use Rattle.rules.specs.Sound.{phase1Sound, twinIn, phase2Sound, sparesSound};
+ghost use Rattle.rules.specs.Sound.{sparesSound};
 ghost use Rattle.codec.specs.Fit.{ChipsFit, RecordsFit};
 ghost use Rattle.codec.specs.Views.{CollectionIs};
 ghost use Rattle.names.specs.Checked.{RecordsPass};
-ghost use Rattle.names.specs.Stamps.{namesIn, StampsPass};
-ghost use Rattle.spares.specs.Scans.{TagIs, byStampIn, StampsOf, fieldOf, FieldsOf, FieldsFit, hasNumber, fillOf, blockScan, chipScan, chipScans, survey, phaseSound};
+ghost use Rattle.names.specs.Stamps.{namesIn};
+ghost use Rattle.spares.specs.Scans.{TagIs, byStampIn, StampsOf, fieldOf, FieldsOf, FieldsFit, hasNumber, fillOf, blockScan, chipScan, chipScans, survey};
 
 // What a pass over the spares of a block brings.
 pub struct Scan {
@@ -370,81 +371,6 @@ fn scan_all(chips: &[u8], records: &[u8], g: Geometry, lost: usize) -> [ChipScan
         b += 1;
     }
     scans
-}
-
-// Phase 1: no record names a page of the destination d.
-fn phase1_passes(chips: &[u8], records: &[u8], g: Geometry, c: usize, d: usize) -> bool
-    requires { ⌜ StampsPass g (now chips) (now records) c × (d < g .b) ⌝ }
-    ensures { λ r. ⌜ r ≡ phase1Sound (layoutOf g) (recordAt (layoutOf g) (now (records .entry))) c d ⌝ }
-{
-    let k = g.k as usize;
-    let first = d * k;
-    let mut free = true;
-    let mut i = 0;
-    while i < k {
-        free = free & !named_at(chips, records, g, c, first + i);
-        i += 1;
-    }
-    free
-}
-
-// How many pages of the destination d are the unnamed twin of page p.
-fn twins(chips: &[u8], records: &[u8], g: Geometry, c: usize, p: usize, d: usize) -> usize
-    requires { ⌜ StampsPass g (now chips) (now records) c × (p < pages (layoutOf g)) × (d < g .b) ⌝ }
-    ensures { λ r. ⌜ r ≡ countBelow (g .k) (twinIn (layoutOf g) (recordAt (layoutOf g) (now (records .entry))) (pageAt (layoutOf g) (now (chips .entry)) c) c d p) ⌝ }
-{
-    let k = g.k as usize;
-    let first = d * k;
-    let t = spare_at(chips, g, c, p);
-    let mut n: usize = 0;
-    let mut i = 0;
-    while i < k {
-        let q = first + i;
-        let u = spare_at(chips, g, c, q);
-        let same = (u.kind == t.kind)
-            & (u.member == t.member)
-            & (u.stripe == t.stripe)
-            & (u.copied == p)
-            & !named_at(chips, records, g, c, q);
-        if same {
-            n += 1;
-        }
-        i += 1;
-    }
-    n
-}
-
-// Phase 2: each page named in the victim v has one twin in the destination d.
-fn phase2_passes(chips: &[u8], records: &[u8], g: Geometry, c: usize, v: usize, d: usize) -> bool
-    requires { ⌜ StampsPass g (now chips) (now records) c × (v < g .b) × (d < g .b) ⌝ }
-    ensures { λ r. ⌜ r ≡ phase2Sound (layoutOf g) (recordAt (layoutOf g) (now (records .entry))) (pageAt (layoutOf g) (now (chips .entry)) c) c v d ⌝ }
-{
-    let k = g.k as usize;
-    let first = v * k;
-    let mut copied = true;
-    let mut i = 0;
-    while i < k {
-        let p = first + i;
-        if named_at(chips, records, g, c, p) {
-            copied = copied & (twins(chips, records, g, c, p, d) == 1);
-        }
-        i += 1;
-    }
-    copied
-}
-
-// Whether the collection under way, if any, is sound on its chip.
-fn phase_passes(chips: &[u8], records: &[u8], g: Geometry, co: CollectionRecord) -> bool
-    requires { ⌜ StampsPass g (now chips) (now records) (co .chip) × RecordsPass g (now records) × CollectionIs co (collectionAt (layoutOf g) (now records)) ⌝ }
-    ensures { λ r. ⌜ r ≡ phaseSound (layoutOf g) (recordAt (layoutOf g) (now (records .entry))) (pageAt (layoutOf g) (now (chips .entry)) (co .chip)) (collectionAt (layoutOf g) (now (records .entry))) ⌝ }
-{
-    if co.phase == 1 {
-        return phase1_passes(chips, records, g, co.chip, co.destination);
-    }
-    if co.phase == 2 {
-        return phase2_passes(chips, records, g, co.chip, co.victim, co.destination);
-    }
-    true
 }
 
 // Whether the spares are sound on every chip but the lost one, where the records have so many page numbers in all.

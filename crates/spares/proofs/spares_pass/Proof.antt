@@ -14,7 +14,7 @@ use Rattle.layout.specs.Record.{recordAt}
 use Rattle.layout.specs.Collection.{collectionAt}
 use Rattle.layout.proofs.Limits.{within}
 use Rattle.rules.specs.Sound.{sparesSound}
-use Rattle.spares.specs.Scans.{phaseSound}
+use Rattle.spares.specs.Phases.{phaseSound}
 use Rattle.names.proofs.Totals.{namesKept, names-le}
 use Rattle.spares.proofs.Scanning.{start-low, scans-at}
 use Rattle.spares.proofs.Judging.{Judged, judge-start, judge-more, judge-lost, judge-few, statements, verdict, stamps-pass}

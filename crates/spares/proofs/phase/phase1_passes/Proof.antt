@@ -9,8 +9,8 @@ use Rattle.layout.specs.Record.{recordAt}
 use Rattle.rules.specs.Blocks.{unnamedIn}
 use Rattle.rules.specs.Sound.{phase1Sound}
 use Rattle.spares.proofs.Scanning.{OnChip, start-low, place-low}
-use Rattle.spares.proofs.phase1_passes.Statement.{statement}
-use Rattle.spares.proofs.phase1_passes.Tie as tie
+use Rattle.spares.proofs.phase.phase1_passes.Statement.{statement}
+use Rattle.spares.proofs.phase.phase1_passes.Tie as tie
 
 abbrev Inv-loop : tie.InvT-loop
 Inv-loop chips records g c d k first free₀ i₀ free i =

@@ -1,10 +1,10 @@
 -- Outside phase 0 both blocks of the collection are there, as the sound records say. Each phase has its own check.
 use native.Mathlib.Omega.{arith}
 use borrow.Author.Tests.{eq-eqb, ne-eqb}
-use Rattle.spares.specs.Scans.{phaseSound}
+use Rattle.spares.specs.Phases.{phaseSound}
 use Rattle.spares.proofs.Judging.{blocks-low}
-use Rattle.spares.proofs.phase_passes.Statement.{statement}
-use Rattle.spares.proofs.phase_passes.Tie as tie
+use Rattle.spares.proofs.phase.phase_passes.Statement.{statement}
+use Rattle.spares.proofs.phase.phase_passes.Tie as tie
 
 phase1-passes-requires : tie.Need-phase1-passes-requires
 phase1-passes-requires c κs =
