@@ -1,4 +1,3 @@
-pub mod Fetching
 pub mod Fields
 pub mod Judging
 pub mod Scanning

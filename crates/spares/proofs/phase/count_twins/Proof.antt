@@ -10,7 +10,7 @@ use Rattle.layout.specs.Layout.{layoutOf}
 use Rattle.layout.specs.Page.{pageAt}
 use Rattle.layout.specs.Record.{recordAt}
 use Rattle.spares.specs.Phases.{Twins}
-use Rattle.spares.proofs.Scanning.{OnChip, start-low, place-low}
+use Rattle.codec.proofs.Fetching.{OnChip, start-low, place-low}
 use Rattle.spares.proofs.Twins.{twin-low, twins-few, twins-start, twins-same, twins-more}
 use Rattle.spares.proofs.phase.count_twins.Statement.{statement}
 use Rattle.spares.proofs.phase.count_twins.Tie as tie

@@ -8,7 +8,7 @@ use Rattle.layout.specs.Layout.{layoutOf}
 use Rattle.layout.specs.Record.{recordAt}
 use Rattle.rules.specs.Blocks.{unnamedIn}
 use Rattle.rules.specs.Sound.{phase1Sound}
-use Rattle.spares.proofs.Scanning.{OnChip, start-low, place-low}
+use Rattle.codec.proofs.Fetching.{OnChip, start-low, place-low}
 use Rattle.spares.proofs.phase.phase1_passes.Statement.{statement}
 use Rattle.spares.proofs.phase.phase1_passes.Tie as tie
 

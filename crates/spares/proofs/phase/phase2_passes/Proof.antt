@@ -10,7 +10,7 @@ use Rattle.layout.specs.Page.{pageAt}
 use Rattle.layout.specs.Record.{recordAt}
 use Rattle.layout.proofs.Limits.{within}
 use Rattle.rules.specs.Sound.{oneTwin, phase2Sound}
-use Rattle.spares.proofs.Scanning.{OnChip, start-low, place-low}
+use Rattle.codec.proofs.Fetching.{OnChip, start-low, place-low}
 use Rattle.spares.proofs.phase.phase2_passes.Statement.{statement}
 use Rattle.spares.proofs.phase.phase2_passes.Tie as tie
 

@@ -6,7 +6,7 @@ use native.Mathlib.Omega.{arith}
 use borrow.Author.Needs.{needs}
 use Rattle.layout.specs.Layout.{layoutOf, pages}
 use Rattle.bytes.proofs.Units.{apart}
-use Rattle.spares.proofs.Scanning.{start-low}
+use Rattle.codec.proofs.Fetching.{start-low}
 use Rattle.spares.proofs.Twins.{between, twin-outside, twin-found, twin-missed}
 use Rattle.spares.proofs.phase.twin_place.Statement.{statement}
 use Rattle.spares.proofs.phase.twin_place.Tie as tie
