@@ -215,7 +215,7 @@ pub fn collect(
     }
     let c = chip as usize;
     let scans = look.chips;
-    match victim_in(g, scans[c]) {
+    match victim_in(scans[c]) {
         Found::At(v) => answer(collect_chip(chips, records, slots, g, c, v, start(allowance))),
         Found::Nothing => Answer::Refused(Refusal::Work),
     }

@@ -68,7 +68,7 @@ pub rows-told : (l : Layout) (s : Images) (lost : ℕ) (above rest : List Row) {
 rows-told l s lost above rest seen e = e ∙ rw (look-check l s lost (checked above) seen) (sym (rows-below above rest))
 
 -- a look that ends in a refusal
-pub look-refused : (l : Layout) (s : Images) (lost : ℕ) {look : Look} {r : Refusal} {k : Check} → look ≡ nothing (l .K) r → Failed r ≡ k → look ≡ lookOf l s lost k
+pub look-refused : (l : Layout) (s : Images) (lost : ℕ) {look : Look} {r : Refusal} {k : Check} → look ≡ nothing r → Failed r ≡ k → look ≡ lookOf l s lost k
 look-refused l s lost e f = rw (sym f) e
 
 -- one that finds what there is

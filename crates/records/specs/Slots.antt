@@ -1,13 +1,10 @@
 -- What the records tell of the slots, and what the pass over them knows on the way.
-use Prim.Native.Nat.{ℕ, _+_, _≤_, _<_}
+use Prim.Native.Nat.{ℕ, _+_}
 use mathlib.Core.Path.{_≡_}
-use mathlib.Core.Bool.{Bool, true, false, not, cond}
+use mathlib.Core.Bool.{Bool, true, false, not}
 use mathlib.Core.List.{List}
 use lib.ListN.{getD}
-use lib.Dec.{ltb}
-use Rattle.ranges.specs.declared.Found.{Found}
-use Rattle.ranges.specs.declared.Found.the-variants.{At, Nothing}
-use Rattle.ranges.specs.Look.{allBelow, someBelow, countBelow, leastBelow}
+use Rattle.ranges.specs.Look.{allBelow, someBelow, countBelow, leastSoFar}
 use Rattle.layout.specs.Layout.{Layout}
 use Rattle.layout.specs.Record.{Record, slotted, slotOf}
 use Rattle.rules.specs.Sound.{ownSlot, soundAt}
@@ -22,10 +19,6 @@ use Rattle.records.specs.declared.Tally.{Tally}
 abbrev pub slotScan : Layout → (ℕ → Record) → SlotScan
 slotScan l r = record { slotted = countBelow (l .S) (slotted r); cheapest = cheapest l r; free = lowestFreeSlot l r }
 
--- no cost is as high as 8, which stands for none
-abbrev pub cheapestIn : Tally → Found
-cheapestIn t = cond (ltb (t .least) 8) (At (t .stripe)) Nothing
-
 -- slot i is not marked
 abbrev pub unmarked : List Bool → ℕ → Bool
 unmarked marks i = not (getD marks i false)
@@ -35,9 +28,7 @@ pub record Tallied (l : Layout) (r : ℕ → Record) (j : ℕ) (t : Tally) : Typ
   pub sounds : t .sound ≡ allBelow j (soundAt l r)
   pub owns : t .own ≡ allBelow j (ownSlot r)
   pub counts : t .slotted ≡ countBelow j (slotted r)
-  pub high : t .least ≤ 8
-  pub some : t .least < 8 → (leastBelow j (slotted r) (recordCost l r) ≡ At (t .stripe)) × (recordCost l r (t .stripe) ≡ t .least)
-  pub nothing : t .least ≡ 8 → leastBelow j (slotted r) (recordCost l r) ≡ Nothing
+  pub cheap : t .cheapest ≡ leastSoFar (slotted r) (recordCost l r) j
 
 -- n is t with record j, which is e, whatever the records before it are; taken, where one of them has its slot
 pub record Adds (l : Layout) (j : ℕ) (e : StripeRecord) (taken : Bool) (t n : Tally) : Type 0 where

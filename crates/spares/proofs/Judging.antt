@@ -29,8 +29,10 @@ use Rattle.names.specs.Stamps.{byStamp, StampsPass}
 use Rattle.ranges.proofs.Tallies.{same-tests}
 use Rattle.spares.specs.declared.ChipScan.{ChipScan}
 use Rattle.names.specs.Checked.{RecordsPass}
-use Rattle.spares.specs.Scans.{chipScan, phaseSound}
-use Rattle.names.proofs.Totals.{foundOn, stampedOrLost, namesKept, total-stamps}
+use Rattle.spares.specs.Scans.{chipScan}
+use Rattle.spares.specs.Phases.{phaseSound}
+use Rattle.names.specs.Stamps.{namesKept}
+use Rattle.names.proofs.Totals.{foundOn, stampedOrLost, total-stamps}
 
 -- ---- tests
 

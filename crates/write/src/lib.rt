@@ -142,7 +142,7 @@ pub fn write_member(
 {
     let chip = member_chip(g, j, m);
     if !is_owed(records, g, j, seen.slotted) {
-        let v = victim_in(g, scans[chip]);
+        let v = victim_in(scans[chip]);
         let free = seen.free;
         return place_member(chips, records, slots, g, j, m, bytes, v, free, p);
     }
