@@ -13,7 +13,7 @@ use Rattle.bytes.specs.Units.{part, put, unit}
 use Rattle.bytes.proofs.Units.{apart, unit-fits, unit-unit, part-unit, getD-unit}
 use Rattle.layout.specs.declared.Geometry.{Geometry}
 use Rattle.layout.specs.Layout.{layoutOf, limits, none, pages, chipBytes}
-use Rattle.layout.specs.Page.{pageOf, pageAt, bytesOfPage}
+use Rattle.layout.specs.Page.{pageOf, pageAt, blankTail, bytesOfPage}
 use Rattle.layout.specs.Images.{chipsLength, slotsLength}
 use Rattle.layout.proofs.Limits.{within}
 use Rattle.codec.specs.Fit.{SlotsFit}
@@ -106,8 +106,8 @@ spareBytes t =
 
 -- the data put in front and then the spare bytes behind them make the bytes of the page
 pub page-filled : (g : Geometry) (xs page : List ℕ) (t : Spare) → length page ≡ length xs + 8 → SmallSpare t
-    → put (length xs) 8 (spareBytes t) (xs ++ drop (length xs) page) ≡ bytesOfPage (layoutOf g) (pageFrom xs t)
-unfolding bytesOfPage digits
+    → put (length xs) 8 (spareBytes t) (xs ++ drop (length xs) page) ≡ bytesOfPage (layoutOf g) (pageFrom (layoutOf g) xs t)
+unfolding bytesOfPage blankTail digits
 page-filled g xs page t e s =
     let kind : t .kind % 256 ≡ t .kind = omega arith in
     let member : t .member % 256 ≡ t .member = omega arith in

@@ -13,7 +13,7 @@ ghost use lib.ListN.{length, getD};
 ghost use lib.Dec.{eqb};
 ghost use Rattle.layout.specs.Layout.{layoutOf, limits, pages};
 ghost use Rattle.layout.specs.Rotation.{parityChip, memberChip};
-ghost use Rattle.layout.specs.Page.{pageAt, bytesOfPage};
+ghost use Rattle.layout.specs.Page.{cleanKind, clean, pageAt, bytesOfPage};
 ghost use Rattle.layout.specs.Record.{recordAt, bytesOfRecord};
 ghost use Rattle.layout.specs.Collection.{collectionAt, bytesOfCollection};
 ghost use Rattle.layout.specs.Images.{slotAt, chipsLength};
@@ -22,7 +22,9 @@ ghost use Rattle.codec.specs.Views.{recordFrom, collectionFrom, spareOf,
 
 // The number of no page.
 pub const NONE: usize = 65535;
-// The kinds of the pages that a record names.
+// The kinds of pages.
+pub const CLEAN: usize = 255;
+
 pub const DATA: usize = 68;
 
 pub const PARITY: usize = 80;
@@ -101,6 +103,22 @@ pub fn spare_at(chips: &[u8], g: Geometry, c: usize, p: usize) -> Spare
         stripe: number_at(chips, a + 2),
         copied: number_at(chips, a + 4),
     }
+}
+
+// Whether a page of this kind is clean.
+pub fn is_clean_kind(kind: usize) -> bool
+    ensures { λ r. ⌜ r ≡ eqb kind cleanKind ⌝ }
+{
+    kind == CLEAN
+}
+
+// Whether page p of chip c is clean.
+pub fn is_clean(chips: &[u8], g: Geometry, c: usize, p: usize) -> bool
+    requires { ⌜ ChipsFit g (now chips) × (c ≤ g .n) × (p < pages (layoutOf g)) ⌝ }
+    ensures { λ r. ⌜ r ≡ clean (pageAt (layoutOf g) (now (chips .entry)) c p) ⌝ }
+{
+    let w = g.w as usize;
+    is_clean_kind(byte(chips, page_offset(g, c, p) + w))
 }
 
 // The data of page p of chip c.
@@ -314,7 +332,7 @@ fn spare_bytes(t: Spare) -> [u8; 8]
 // The page becomes the data and the spare bytes.
 pub fn fill_page(page: &mut [u8], bytes: &[u8], t: Spare)
     requires { ⌜ (length (now page) ≡ length (now bytes) + 8) × SmallSpare t ⌝ }
-    ensures { λ _. ⌜ ((g : Geometry) → now (page .exit) ≡ bytesOfPage (layoutOf g) (pageFrom (now (bytes .entry)) t)) ⌝ }
+    ensures { λ _. ⌜ ((g : Geometry) → now (page .exit) ≡ bytesOfPage (layoutOf g) (pageFrom (layoutOf g) (now (bytes .entry)) t)) ⌝ }
 {
     let w = bytes.len();
     let e = w + 8;

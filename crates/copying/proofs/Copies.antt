@@ -36,9 +36,9 @@ use Rattle.names.proofs.Statements.{usable, stamps-pass, sound, checked}
 -- a page programmed with the data and the stamp of page x is its copy
 pub copy-ran : (l : Layout) (c p q : ℕ) (x : Page) (t : Spare) (ys : List ℕ) (run r : Progress) (s u : Images) → ys ≡ x .bytes → t ≡ spareOf x
     → Ran l run
-    (record { reads = 1; store = program c q (pageFrom ys (record { kind = t .kind; member = t .member; stripe = t .stripe; copied = p })) } ∷ [])
+    (record { reads = 1; store = program c q (pageFrom l ys (record { kind = t .kind; member = t .member; stripe = t .stripe; copied = p })) } ∷ [])
     r s u
-    → Ran l run (record { reads = 1; store = program c q (copyOf p x) } ∷ []) r s u
+    → Ran l run (record { reads = 1; store = program c q (copyOf l p x) } ∷ []) r s u
 copy-ran l c p q x t ys run r s u data-same stamp-same h = rw (data-same, stamp-same) at h
 
 -- the copies of the places below i of the victim
@@ -92,7 +92,7 @@ module _ {g : Geometry} {records x₀ : List ℕ} {c v d : ℕ} {p : Progress} w
         → pageAt (layoutOf g) x c (pageIn (layoutOf g) v i) ≡ pageAt (layoutOf g) x₀ c (pageIn (layoutOf g) v i)
         → {r : Progress} {y : List ℕ} → length y ≡ length x
         → ((rs zs : List ℕ) → Ran (layoutOf g) q
-        (record { reads = 1; store = program c (d * g .k + copies) (copyOf (v * g .k + i) (pageAt (layoutOf g) x c (v * g .k + i))) } ∷ [])
+        (record { reads = 1; store = program c (d * g .k + copies) (copyOf (layoutOf g) (v * g .k + i) (pageAt (layoutOf g) x c (v * g .k + i))) } ∷ [])
         r (images x rs zs) (images y rs zs))
         → Copying g records x₀ c v d p (i + 1) (copies + 1) r y
     unfolding copyFrom

@@ -31,7 +31,7 @@ ghost use Rattle.names.specs.Checked.{Settled};
 fn copy_page(chips: &mut [u8], g: Geometry, c: usize, p: usize, q: usize, run: Progress) -> Progress
     requires { ⌜ ChipsFit g (now chips) × (c ≤ g .n) × (p < pages (layoutOf g)) × (q < pages (layoutOf g)) × Sane run ⌝ }
     ensures { λ r. ⌜ ((rs zs : List ℕ) → Ran (layoutOf g) run
-        (record { reads = 1; store = programStore c q (copyOf p (pageAt (layoutOf g) (now (chips .entry)) c p)) } ∷ [])
+        (record { reads = 1; store = programStore c q (copyOf (layoutOf g) p (pageAt (layoutOf g) (now (chips .entry)) c p)) } ∷ [])
         r (images (now (chips .entry)) rs zs) (images (now (chips .exit)) rs zs)) ⌝ }
 {
     let mut work = [0u8; 4096];

@@ -99,7 +99,7 @@ pub fn program(
 ) -> Progress
     requires { ⌜ ChipsFit g (now chips) × (c ≤ g .n) × (q < pages (layoutOf g)) × (length (now bytes) ≡ g .w) × SmallSpare t × (reads ≤ 8) × Sane p ⌝ }
     ensures { λ r. ⌜ ((rs zs : List ℕ) → Ran (layoutOf g) p
-        (record { reads = reads; store = programStore c q (pageFrom (now (bytes .entry)) t) } ∷ [])
+        (record { reads = reads; store = programStore c q (pageFrom (layoutOf g) (now (bytes .entry)) t) } ∷ [])
         r (images (now (chips .entry)) rs zs) (images (now (chips .exit)) rs zs)) ⌝ }
 {
     if p.left == 0 {

@@ -76,7 +76,7 @@ module _ (l : Layout) where
       let x = pageAt l (s .chips) c in
       let r = recordAt l (s .records) in
       at-most-one (namedIn l r c v i)
-      (record { reads = 1; store = program c (pageIn l d (countBelow i (namedIn l r c v))) (copyOf (pageIn l v i) (x (pageIn l v i))) })
+      (record { reads = 1; store = program c (pageIn l d (countBelow i (namedIn l r c v))) (copyOf l (pageIn l v i) (x (pageIn l v i))) })
 
   collect-of : (c : ℕ) (s : Images) (victim destination : Found)
       → length (whenFound victim (λ v. whenFound destination (λ d. andThen l (copySteps l c (pageAt l (s .chips) c) (recordAt l (s .records)) v d) (finishSteps l) s) []) []) ≤ 2 * K + 4
