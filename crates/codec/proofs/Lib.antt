@@ -1,2 +1,4 @@
 pub mod Offsets
 pub mod Encodings
+pub mod Sizes
+pub mod Fills

@@ -2,10 +2,10 @@
 use Prim.Native.Nat.{ℕ, _+_, _<_}
 use mathlib.Core.Bool.{cond}
 use mathlib.Core.Path.{_≡_}
-use mathlib.Core.List.{List, [], _∷_}
-use lib.ListN.{getD}
+use mathlib.Core.List.{List, [], _∷_, _++_}
+use lib.ListN.{getD, replicate}
 use lib.Dec.{ltb}
-use Rattle.bytes.specs.Number.{number}
+use Rattle.bytes.specs.Number.{number, digits}
 use Rattle.bytes.specs.Units.{part}
 use Rattle.layout.specs.Layout.{Layout, none}
 use Rattle.layout.specs.Page.{Page, blankTail}
@@ -58,6 +58,10 @@ pageFrom l xs t =
       copied = t .copied;
       tail = blankTail l;
     }
+
+-- its spare bytes
+abbrev pub spareFrom : Spare → List ℕ
+spareFrom t = t .kind ∷ t .member ∷ (digits 2 (t .stripe) ++ (digits 2 (t .copied) ++ replicate 2 255))
 
 -- the six numbers of two bytes at offset a
 abbrev pub sixAt : ℕ → List ℕ → List ℕ

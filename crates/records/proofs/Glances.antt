@@ -23,7 +23,7 @@ use Rattle.codec.specs.Fit.{RecordsFit}
 use Rattle.codec.specs.Views.{sixAt}
 use Rattle.codec.proofs.Encodings.{six-is, six-number, recordIn, record-in}
 use Rattle.records.specs.Plain.{Ranges, WordAt, Plain, Glanced, numberAt, numberIn, isWritten, writtenIn}
-use Rattle.records.proofs.Sizes.{bounded}
+use Rattle.codec.proofs.Sizes.{bounded}
 use Rattle.records.proofs.Plains.{Bare, bare-plain}
 use Rattle.records.proofs.Totals.{given}
 

@@ -11,4 +11,7 @@ returns c =
     rw (page-in (a .g) (a .chips .now) (a .c) (a .p) (s .pre .2) .kind, c .is-clean-kind .ensures, c .before .byte .ensures .0, c .before .before .page-offset .ensures .0)
 
 pub is-clean-spec : {M : Type 1} → statement M
-is-clean-spec = tie.close (tie.spec (λ c κs. search needs) (λ c. search needs) (λ c κs. search needs) (λ c κs. search needs) returns)
+is-clean-spec =
+    tie.close
+    (tie.spec
+    (λ c κs. search needs) (λ c. search needs) (λ c κs. search needs) (λ c κs. search needs) returns)

@@ -28,4 +28,6 @@ returns c = (refl, page-within (c .args .g) (c .args .c) (c .args .p) (c .pre .1
 
 pub page-offset-spec : {M : Type 1} → statement M
 page-offset-spec =
-    tie.close (tie.spec mul-result mul-result-2 add-result add-result-2 mul-result-3 returns)
+    tie.close
+    (tie.spec
+    mul-result mul-result-2 add-result add-result-2 mul-result-3 returns)

@@ -14,7 +14,7 @@ use Rattle.layout.specs.Layout.{layoutOf}
 use Rattle.layout.specs.Record.{recordAt}
 use Rattle.layout.specs.Images.{recordsLength}
 use Rattle.records.specs.Plain.{Glanced}
-use Rattle.records.proofs.Sizes.{bounded}
+use Rattle.codec.proofs.Sizes.{bounded}
 use Rattle.records.proofs.Glances.{next, lowIn, givenIn, plainTests, full, glanced}
 use Rattle.records.proofs.glance_at.Statement.{statement}
 use Rattle.records.proofs.glance_at.Tie as tie

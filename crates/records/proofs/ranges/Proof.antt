@@ -3,7 +3,7 @@ use Prim.Native.Nat.{_≤_, _<_, _-_}
 use native.Mathlib.Omega.{arith}
 use mathlib.Core.Path.{_≡_}
 use Rattle.records.specs.Plain.{Ranges}
-use Rattle.records.proofs.Sizes.{bounded}
+use Rattle.codec.proofs.Sizes.{bounded}
 use Rattle.records.proofs.Tops.{tops-none, tops-more}
 use Rattle.records.proofs.ranges.Statement.{statement}
 use Rattle.records.proofs.ranges.Tie as tie
