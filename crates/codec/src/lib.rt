@@ -57,7 +57,7 @@ const TAIL_BYTES: usize = SPARE_BYTES - TAIL_AT;
 
 const TAIL: usize = 65535;
 // The kinds of pages.
-pub const CLEAN: usize = 255;
+pub const CLEAN: u16 = 255;
 
 pub const DATA: usize = 68;
 
@@ -140,7 +140,7 @@ pub fn spare_at(chips: &[u8], g: Geometry, c: usize, p: usize) -> Spare
 }
 
 // Whether a page of this kind is clean.
-pub fn is_clean_kind(kind: usize) -> bool
+pub fn is_clean_kind(kind: u16) -> bool
     ensures { λ r. ⌜ r ≡ eqb kind cleanKind ⌝ }
 {
     kind == CLEAN
@@ -152,7 +152,7 @@ pub fn is_clean(chips: &[u8], g: Geometry, c: usize, p: usize) -> bool
     ensures { λ r. ⌜ r ≡ clean (pageAt (layoutOf g) (now (chips .entry)) c p) ⌝ }
 {
     let w = g.w as usize;
-    is_clean_kind(byte(chips, page_offset(g, c, p) + w))
+    is_clean_kind(byte(chips, page_offset(g, c, p) + w) as u16)
 }
 
 // The data of page p of chip c.

@@ -1,4 +1,5 @@
 -- The kind is the first byte behind the data of the page.
+use native.Mathlib.Omega.{arith}
 use borrow.Author.Needs.{needs}
 use Rattle.codec.proofs.Offsets.{page-in}
 use Rattle.codec.proofs.is_clean.Statement.{statement}
@@ -14,4 +15,4 @@ pub is-clean-spec : {M : Type 1} → statement M
 is-clean-spec =
     tie.close
     (tie.spec
-    (λ c κs. search needs) (λ c. search needs) (λ c κs. search needs) (λ c κs. search needs) returns)
+    (λ c κs. search needs) (λ c. search needs) (λ c κs. search needs) (λ c. omega (arith, c .byte .ensures .1)) (λ c κs. search needs) returns)
