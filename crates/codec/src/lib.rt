@@ -3,7 +3,6 @@
 
 pub mod limits;
 pub mod put;
-
 pub mod scan;
 
 use bytes::byte;

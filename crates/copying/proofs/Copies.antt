@@ -64,9 +64,10 @@ unfolding readsAt
 role-stands l w y z r c p j chip is-page names-it {before} h =
     let (on, number) = role-is l r c p j names-it is-page in
     let there = page-there l w y z j (r j) (roleOf l c j (r j) p) (rw on chip) in
-    let stands : fetchRole l y z j (r j) noChip (roleOf l c j (r j) p) ≡ itself l y z j (r j) c p = rw (on, number) at there in
-    (h .bytes ∙ ap (λ (x : Fetched). before ⊕ x .bytes) stands ∙ ap (λ xs. before ⊕ xs) (bytes-page l y c p is-page),
-    h .reads ∙ ap (λ (x : Fetched). x .reads) stands ∙ rw (ne-eqb p (none l) is-page))
+    let stands : fetchRole l y z j (r j) noChip (roleOf l c j (r j) p) ≡ itself l y z j (r j) c p = rw (on, number) at there in (
+      h .bytes ∙ ap (λ (x : Fetched). before ⊕ x .bytes) stands ∙ ap (λ xs. before ⊕ xs) (bytes-page l y c p is-page),
+      h .reads ∙ ap (λ (x : Fetched). x .reads) stands ∙ rw (ne-eqb p (none l) is-page),
+    )
 
 -- the copies of the places below i of the victim
 abbrev copiesBelow : Geometry → ℕ → ℕ → ℕ → ℕ → Images → List Step
