@@ -49,6 +49,7 @@ use Rattle.space.specs.Victims.{Victims}
 use Rattle.looks.specs.declared.Look.{Look}
 use Rattle.looks.specs.Looks.{below, lookOf}
 use Rattle.looks.proofs.Passing.{rows-below, rows-told, PageReady, page-ready, Ready, ready}
+use Rattle.rules.specs.declared.Origin.{Origin}
 
 -- ---- format
 
@@ -126,9 +127,8 @@ module _ (g : Geometry) (s : Images) (lost : ℕ) where
     unfolding readCall
     read-refused r e = rw e
 
-    pub read-done : {bytes : List ℕ} {reads : ℕ} → checked (readRows l s lost page buffer) ≡ Passed
-        → record { bytes = bytes; reads = reads }
-        ≡ fetchMember l (pageAt l (s .chips)) (slotAt l (s .slots)) lost (page / g .n) (page % g .n) (recordAt l (s .records) (page / g .n))
+    pub read-done : {bytes : List ℕ} {reads : ℕ} {origin : Origin} → checked (readRows l s lost page buffer) ≡ Passed
+        → record { bytes = bytes; reads = reads; origin = origin } ≡ fetchMember l s lost (page / g .n) (page % g .n)
         → _≡_ {A = ReadOutcome} (record { answer = ReadDone (record { reads = reads; programs = 0; erases = 0; stores = 0 }); buffer = bytes }) (readCall l s lost page buffer)
     unfolding readCall fetch
     read-done e f = rw e (ap readInto f)

@@ -7,7 +7,7 @@ use collect::collect_chip;
 use collect::finish;
 use commit::commit_stripe;
 use device::start;
-use fetch::fetch;
+use fetch::read_member;
 use format::format_all;
 use layout::Geometry;
 use looks::also;
@@ -116,9 +116,9 @@ pub fn read(
     }
     let j = (page / g.n) as usize;
     let m = (page % g.n) as usize;
-    let reads = fetch(buffer, chips, records, slots, g, lost as usize, j, m);
+    let got = read_member(buffer, chips, records, slots, g, lost as usize, j, m);
     Reading::Done(Counts {
-        reads,
+        reads: got.reads,
         programs: 0,
         erases: 0,
         stores: 0,
@@ -215,8 +215,8 @@ pub fn collect(
     }
     let c = chip as usize;
     let scans = look.chips;
-    match victim_in(g, scans[c]) {
-        Found::At(v) => answer(collect_chip(chips, records, g, c, v, start(allowance))),
+    match victim_in(scans[c]) {
+        Found::At(v) => answer(collect_chip(chips, records, slots, g, c, v, start(allowance))),
         Found::Nothing => Answer::Refused(Refusal::Work),
     }
 }

@@ -1,2 +1,5 @@
-pub mod Offsets
 pub mod Encodings
+pub mod Fetching
+pub mod Glances
+pub mod Offsets
+pub mod Tops

@@ -1,5 +1,7 @@
 //! Pages, records and the collection record in their images, and where the pages of a stripe stand.
 
+pub mod scan;
+
 use bytes::byte;
 use bytes::copy;
 use bytes::number_at;

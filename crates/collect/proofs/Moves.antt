@@ -8,7 +8,7 @@ use mathlib.Core.List.{List, [], _∷_}
 use lib.ListN.{length}
 use borrow.Author.Tests.{eq-eqb, ne-eqb}
 use Rattle.layout.specs.declared.Geometry.{Geometry}
-use Rattle.layout.specs.Layout.{Layout, layoutOf, pages, pageIn}
+use Rattle.layout.specs.Layout.{Layout, layoutOf, pages, pageIn, noChip}
 use Rattle.layout.specs.Page.{pageAt}
 use Rattle.layout.specs.Record.{recordAt}
 use Rattle.layout.specs.Collection.{Collection, collectionAt}
@@ -35,7 +35,7 @@ use Rattle.collect.proofs.Underway.{Working, working}
 
 -- ---- the move of one place
 
-module _ (g : Geometry) (chips records : List ℕ) (h : Checked g chips records) (t : CollectionRecord)
+module _ (g : Geometry) (chips records : List ℕ) (h : Checked g noChip chips records) (t : CollectionRecord)
     (is : CollectionIs t (collectionAt (layoutOf g) records)) (busy : t .phase ≡ 2) (i : ℕ) (place : i < g .k) where
   abbrev l : Layout
   l = layoutOf g
@@ -121,9 +121,9 @@ module _ (g : Geometry) (chips x₀ : List ℕ) (p : Progress) where
     carried-cut c zs e =
         ran-cut (layoutOf g) p q (moveSteps (layoutOf g) (collectionAt (layoutOf g) x₀)) i (g .k) (images chips x₀ zs) (images chips x zs) (w .fits) c (w .ran zs e)
 
-    module _ (h : Checked g chips x₀) (busy : collectionAt (layoutOf g) x₀ .phase ≡ 2) (going : q .cut ≡ false) where
+    module _ (h : Checked g noChip chips x₀) (busy : collectionAt (layoutOf g) x₀ .phase ≡ 2) (going : q .cut ≡ false) where
       -- what is not cut has kept the tests and the collection record
-      pub carried-sound : Checked g chips x × (collectionAt (layoutOf g) x ≡ collectionAt (layoutOf g) x₀)
+      pub carried-sound : Checked g noChip chips x × (collectionAt (layoutOf g) x ≡ collectionAt (layoutOf g) x₀)
       carried-sound =
           let l = layoutOf g in
           let (zs, e) = some-slots l in

@@ -8,7 +8,7 @@ use lib.ListN.{length}
 use Rattle.ranges.specs.declared.Found.the-variants.{At, Nothing}
 use Rattle.ranges.specs.Look.{whenFound}
 use Rattle.layout.specs.declared.Geometry.{Geometry}
-use Rattle.layout.specs.Layout.{Layout, layoutOf}
+use Rattle.layout.specs.Layout.{Layout, layoutOf, noChip}
 use Rattle.layout.specs.Page.{pageAt}
 use Rattle.layout.specs.Record.{recordAt}
 use Rattle.layout.specs.Images.{Images, slotsLength}
@@ -18,9 +18,10 @@ use Rattle.steps.specs.Allowance.{Ran, images}
 use Rattle.steps.proofs.Prefixes.{leads-weaken}
 use Rattle.steps.proofs.Allowances.{ran-then, ran-then-cut, ran-whole}
 use Rattle.rules.specs.Blocks.{lowestCleanBlock}
-use Rattle.rules.specs.Collect.{copySteps, victimOf, collectSteps}
+use Rattle.rules.specs.Collect.{copySteps, copyFeed, victimOf, collectSteps}
 use Rattle.rules.specs.Open.{finishSteps}
-use Rattle.rules.specs.Place.{placeOf, roomSteps}
+use Rattle.rules.specs.Place.{placeOf}
+use Rattle.rules.specs.Room.{roomSteps}
 use Rattle.rules.proofs.Soundness.Statements.{Sound}
 use Rattle.rules.proofs.Stores.Kept.{Kept}
 use Rattle.rules.proofs.Lists.Copying.{AllCopied, copies-lead}
@@ -30,7 +31,7 @@ use Rattle.names.proofs.Statements.{some-slots, usable, sound, checked, chip-or
 use Rattle.space.specs.Ordered.{Ordered}
 
 -- the blocks of a chip are in order
-pub ordered : {g : Geometry} {chips records : List ℕ} → Checked g chips records → {c : ℕ} → c ≤ g .n → Ordered g chips c
+pub ordered : {g : Geometry} {chips records : List ℕ} → Checked g noChip chips records → {c : ℕ} → c ≤ g .n → Ordered g chips c
 ordered {g} {chips} {records} h {c} low = record { chips-fit = h .chips-fit; chip = low; order = chip-ordered g chips records h c low }
 
 -- victim and destination are found
@@ -39,22 +40,22 @@ module _ {g : Geometry} {x r : List ℕ} (h : Settled g x r) {c v d : ℕ} (chip
     (clean : lowestCleanBlock (layoutOf g) (pageAt (layoutOf g) x c) ≡ At d)
     {p q : Progress} {x₁ r₁ : List ℕ}
     (first : (zs : List ℕ) → length zs ≡ slotsLength (layoutOf g)
-    → Ran (layoutOf g) p (copySteps (layoutOf g) c (pageAt (layoutOf g) x c) (recordAt (layoutOf g) r) v d) q (images x r zs) (images x₁ r₁ zs)) where
+    → Ran (layoutOf g) p (copySteps (layoutOf g) c (pageAt (layoutOf g) x c) (copyFeed (layoutOf g) c (images x r zs)) (recordAt (layoutOf g) r) v d) q (images x r zs) (images x₁ r₁ zs)) where
   abbrev l : Layout
   l = layoutOf g
 
-  collect-then : (zs : List ℕ) → collectSteps l c (images x r zs) ≡ andThen l (copySteps l c (pageAt l x c) (recordAt l r) v d) (finishSteps l) (images x r zs)
+  collect-then : (zs : List ℕ) → collectSteps l c (images x r zs) ≡ andThen l (copySteps l c (pageAt l x c) (copyFeed l c (images x r zs)) (recordAt l r) v d) (finishSteps l) (images x r zs)
   unfolding collectSteps whenFound
   collect-then zs = rw (victim, clean)
 
   -- where the copies are not cut the images have passed the tests again, in phase 2
-  pub copied-checked : q .cut ≡ false → Checked g x₁ r₁
+  pub copied-checked : q .cut ≡ false → Checked g noChip x₁ r₁
   copied-checked going =
       let (zs, e) = some-slots l in
       let s = images x r zs in
       let u = usable g x r (h .checked) in
       let f = sound g x r (h .checked) zs e in
-      let copies = copySteps l c (pageAt l x c) (recordAt l r) v d in
+      let copies = copySteps l c (pageAt l x c) (copyFeed l c (images x r zs)) (recordAt l r) v d in
       let whole = ran-whole l p q copies s (images x₁ r₁ zs) (first zs e) going in
       checked g (h .checked .chips-fit .limited) (images x₁ r₁ zs)
       (rw whole
@@ -65,7 +66,7 @@ module _ {g : Geometry} {x r : List ℕ} (h : Settled g x r) {c v d : ℕ} (chip
   pub collect-cut : q .cut ≡ true → (zs : List ℕ) → length zs ≡ slotsLength l → Ran l p (collectSteps l c (images x r zs)) q (images x r zs) (images x₁ r₁ zs)
   collect-cut cut zs e =
       rw (collect-then zs)
-      (ran-then-cut l p q (copySteps l c (pageAt l x c) (recordAt l r) v d) (finishSteps l) (images x r zs) (images x₁ r₁ zs) (first zs e) cut)
+      (ran-then-cut l p q (copySteps l c (pageAt l x c) (copyFeed l c (images x r zs)) (recordAt l r) v d) (finishSteps l) (images x r zs) (images x₁ r₁ zs) (first zs e) cut)
 
   -- and one that is not
   pub collect-ran : {w : Progress} {x₂ r₂ : List ℕ}
@@ -73,7 +74,7 @@ module _ {g : Geometry} {x r : List ℕ} (h : Settled g x r) {c v d : ℕ} (chip
       → (zs : List ℕ) → length zs ≡ slotsLength l → Ran l p (collectSteps l c (images x r zs)) w (images x r zs) (images x₂ r₂ zs)
   collect-ran {w} {x₂} {r₂} second zs e =
       rw (collect-then zs)
-      (ran-then l p q w (copySteps l c (pageAt l x c) (recordAt l r) v d) (finishSteps l) (images x r zs) (images x₁ r₁ zs) (images x₂ r₂ zs)
+      (ran-then l p q w (copySteps l c (pageAt l x c) (copyFeed l c (images x r zs)) (recordAt l r) v d) (finishSteps l) (images x r zs) (images x₁ r₁ zs) (images x₂ r₂ zs)
       (first zs e) (second zs e))
 
 module _ (l : Layout) (s : Images) (c : ℕ) where

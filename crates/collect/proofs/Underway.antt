@@ -4,7 +4,7 @@ use native.Mathlib.Omega.{arith}
 use mathlib.Core.Logic.{_≢_}
 use mathlib.Core.List.{List}
 use Rattle.layout.specs.declared.Geometry.{Geometry}
-use Rattle.layout.specs.Layout.{layoutOf}
+use Rattle.layout.specs.Layout.{layoutOf, noChip}
 use Rattle.layout.specs.Collection.{Collection, collectionAt}
 use Rattle.rules.proofs.Soundness.Statements.{CollectionSound}
 use Rattle.codec.specs.declared.CollectionRecord.{CollectionRecord}
@@ -29,6 +29,6 @@ working-in g t co is f d =
     }
 
 -- so of images that have passed their checks
-pub working : (g : Geometry) (chips records : List ℕ) → Checked g chips records → (t : CollectionRecord)
+pub working : (g : Geometry) (chips records : List ℕ) → Checked g noChip chips records → (t : CollectionRecord)
     → CollectionIs t (collectionAt (layoutOf g) records) → t .phase ≢ 0 → Working g t
 working g chips records h t is = working-in g t (collectionAt (layoutOf g) records) is (stripes g chips records h .collection)

@@ -22,16 +22,16 @@ ghost use mathlib.Core.List.{List};
 ghost use Prim.Native.Nat.{ℕ, _≤_, _<_};
 ghost use lib.ListN.{length};
 ghost use Rattle.ranges.specs.declared.Found.the-variants.{At};
-ghost use Rattle.layout.specs.Layout.{layoutOf, limits, pages};
+ghost use Rattle.layout.specs.Layout.{layoutOf, noChip, limits, pages};
 ghost use Rattle.layout.specs.Page.{pageAt};
 ghost use Rattle.layout.specs.Record.{recordAt};
 ghost use Rattle.layout.specs.Collection.{collectionAt};
 ghost use Rattle.layout.specs.Images.{slotsLength};
 ghost use Rattle.rules.specs.Open.{moved as movedTo, repointed, due, ending, moveSteps, finishSteps};
 ghost use Rattle.rules.specs.Collect.{victimOf, collectSteps};
-ghost use Rattle.rules.specs.Place.{roomSteps};
+ghost use Rattle.rules.specs.Room.{roomSteps};
 ghost use Rattle.steps.specs.Steps.{thenBelow};
-ghost use Rattle.codec.specs.Fit.{ChipsFit, RecordsFit};
+ghost use Rattle.codec.specs.Fit.{ChipsFit, RecordsFit, SlotsFit};
 ghost use Rattle.codec.specs.Views.{recordFrom, CollectionIs, SmallRecord};
 ghost use Rattle.steps.specs.Allowance.{Sane, Ran, images};
 ghost use Rattle.names.specs.Checked.{Checked, Settled};
@@ -63,7 +63,7 @@ fn repoint(g: Geometry, e: StripeRecord, c: usize, j: usize, p: usize, q: usize)
 
 // Whether page q of the collection's chip holds the copy of a page that is still named in the victim.
 fn is_due(chips: &[u8], records: &[u8], g: Geometry, co: CollectionRecord, q: usize) -> bool
-    requires { ⌜ Checked g (now chips) (now records) × CollectionIs co (collectionAt (layoutOf g) (now records))
+    requires { ⌜ Checked g noChip (now chips) (now records) × CollectionIs co (collectionAt (layoutOf g) (now records))
         × (co .chip ≤ g .n) × (co .victim < g .b) × (q < pages (layoutOf g)) ⌝ }
     ensures { λ r. ⌜ r ≡ due (layoutOf g) (collectionAt (layoutOf g) (now (records .entry))) (pageAt (layoutOf g) (now (chips .entry)) (co .chip)) (recordAt (layoutOf g) (now (records .entry))) q ⌝ }
 {
@@ -92,7 +92,7 @@ fn move_from(
     i: usize,
     p: Progress,
 ) -> Progress
-    requires { ⌜ Checked g (now chips) (now records) × CollectionIs co (collectionAt (layoutOf g) (now records))
+    requires { ⌜ Checked g noChip (now chips) (now records) × CollectionIs co (collectionAt (layoutOf g) (now records))
         × (co .phase ≡ 2) × (i < g .k) × Sane p ⌝ }
     ensures { λ r. ⌜ ((zs : List ℕ) → Ran (layoutOf g) p
         (moveSteps (layoutOf g) (collectionAt (layoutOf g) (now (records .entry))) i (images (now (chips .entry)) (now (records .entry)) zs))
@@ -117,7 +117,7 @@ fn move_all(
     co: CollectionRecord,
     p: Progress,
 ) -> Progress
-    requires { ⌜ Checked g (now chips) (now records) × CollectionIs co (collectionAt (layoutOf g) (now records))
+    requires { ⌜ Checked g noChip (now chips) (now records) × CollectionIs co (collectionAt (layoutOf g) (now records))
         × (co .phase ≡ 2) × Sane p ⌝ }
     ensures { λ r. ⌜ ((zs : List ℕ) → length zs ≡ slotsLength (layoutOf g) → Ran (layoutOf g) p
         (thenBelow (layoutOf g) (g .k) (moveSteps (layoutOf g) (collectionAt (layoutOf g) (now (records .entry)))) (images (now (chips .entry)) (now (records .entry)) zs))
@@ -162,7 +162,7 @@ fn end(
 
 // Finishes the collection that the images are in, if any.
 pub fn finish(chips: &mut [u8], records: &mut [u8], g: Geometry, p: Progress) -> Progress
-    requires { ⌜ Checked g (now chips) (now records) × Sane p ⌝ }
+    requires { ⌜ Checked g noChip (now chips) (now records) × Sane p ⌝ }
     ensures { λ r. ⌜ ((zs : List ℕ) → length zs ≡ slotsLength (layoutOf g) → Ran (layoutOf g) p
         (finishSteps (layoutOf g) (images (now (chips .entry)) (now (records .entry)) zs))
         r (images (now (chips .entry)) (now (records .entry)) zs) (images (now (chips .exit)) (now (records .exit)) zs)) ⌝ }
@@ -182,20 +182,21 @@ pub fn finish(chips: &mut [u8], records: &mut [u8], g: Geometry, p: Progress) ->
 pub fn collect_chip(
     chips: &mut [u8],
     records: &mut [u8],
+    slots: &[u8],
     g: Geometry,
     c: usize,
     v: usize,
     p: Progress,
 ) -> Progress
     requires { ⌜ Settled g (now chips) (now records) × (c ≤ g .n) × Sane p
-        × (victimOf (layoutOf g) c (pageAt (layoutOf g) (now chips) c) (recordAt (layoutOf g) (now records)) ≡ At v) ⌝ }
+        × (victimOf (layoutOf g) c (pageAt (layoutOf g) (now chips) c) (recordAt (layoutOf g) (now records)) ≡ At v) × SlotsFit g (now slots) ⌝ }
     ensures { λ r. ⌜ ((zs : List ℕ) → length zs ≡ slotsLength (layoutOf g) → Ran (layoutOf g) p
         (collectSteps (layoutOf g) c (images (now (chips .entry)) (now (records .entry)) zs))
         r (images (now (chips .entry)) (now (records .entry)) zs) (images (now (chips .exit)) (now (records .exit)) zs)) ⌝ }
 {
     match clean_block_on(chips, g, c) {
         Found::At(d) => {
-            let run = copy_block(chips, records, g, c, v, d, p);
+            let run = copy_block(chips, records, slots, g, c, v, d, p);
             // past a cut there is no phase 2 to finish
             if run.cut {
                 return run;
@@ -210,12 +211,13 @@ pub fn collect_chip(
 pub fn make_room(
     chips: &mut [u8],
     records: &mut [u8],
+    slots: &[u8],
     g: Geometry,
     c: usize,
     v: Found,
     p: Progress,
 ) -> Progress
-    requires { ⌜ Settled g (now chips) (now records) × (c ≤ g .n) × VictimFor g (now chips) (now records) c v × Sane p ⌝ }
+    requires { ⌜ Settled g (now chips) (now records) × (c ≤ g .n) × VictimFor g (now chips) (now records) c v × Sane p × SlotsFit g (now slots) ⌝ }
     ensures { λ r. ⌜ ((zs : List ℕ) → length zs ≡ slotsLength (layoutOf g) → Ran (layoutOf g) p
         (roomSteps (layoutOf g) c (images (now (chips .entry)) (now (records .entry)) zs))
         r (images (now (chips .entry)) (now (records .entry)) zs) (images (now (chips .exit)) (now (records .exit)) zs)) ⌝ }
@@ -224,7 +226,7 @@ pub fn make_room(
         return p;
     }
     match v {
-        Found::At(b) => collect_chip(chips, records, g, c, b, p),
+        Found::At(b) => collect_chip(chips, records, slots, g, c, b, p),
         Found::Nothing => p,
     }
 }

@@ -21,8 +21,9 @@ use Rattle.steps.specs.Steps.{Step}
 use Rattle.steps.specs.Allowance.{Ran, images}
 use Rattle.steps.proofs.Prefixes.{leads-weaken}
 use Rattle.steps.proofs.Allowances.{ran-none, ran-then, ran-then-cut, ran-whole}
-use Rattle.rules.specs.Place.{placeOf, roomSteps, atPlace, placed}
-use Rattle.rules.specs.Write.{lowestFreeSlot}
+use Rattle.rules.specs.Place.{placeOf}
+use Rattle.rules.specs.Room.{roomSteps, atPlace, placed}
+use Rattle.rules.specs.Partial.{lowestFreeSlot}
 use Rattle.rules.specs.Sound.{recordSound}
 use Rattle.rules.proofs.Soundness.Statements.{Usable, Sound, rest-collects}
 use Rattle.rules.proofs.Soundness.RecordChecks.{record-pass}
@@ -34,7 +35,7 @@ use Rattle.codec.specs.Fit.{SlotsFit}
 use Rattle.names.specs.Checked.{Settled}
 use Rattle.spares.specs.declared.ChipScan.{ChipScan}
 use Rattle.spares.specs.Scans.{unscanned}
-use Rattle.space.specs.Victims.{victimIn, VictimFor, Victims}
+use Rattle.space.specs.Victims.{VictimFor, Victims}
 use Rattle.names.proofs.Statements.{usable, stripes, chip-is-sound, sound, checked}
 
 -- sound images at rest pass the tests
@@ -115,5 +116,5 @@ placed-on l e fill h = rw e at h
 
 -- the victim of a chip, which may have another name, is known
 pub known-victim : {g : Geometry} {x r : List ℕ} {scans : List ChipScan} {c d : ℕ} {v : Found} → Victims g x r scans → c ≤ g .n → c ≡ d
-    → v ≡ victimIn (g .k) (getD scans c unscanned) → VictimFor g x r d v
+    → v ≡ getD scans c unscanned .victim .at → VictimFor g x r d v
 known-victim {c = c} h low same e = rw (← same) (record { is = λ _. e ∙ h .at c low })

@@ -36,7 +36,7 @@ pub fn commit_stripe(
         r (images (now (chips .entry)) (now (records .entry)) (now (slots .entry))) (images (now (chips .exit)) (now (records .exit)) (now (slots .entry))) ⌝ }
 {
     let c = parity_chip(g, j);
-    let run = make_room(chips, records, g, c, victim_in(g, scans[c]), p);
+    let run = make_room(chips, records, slots, g, c, victim_in(scans[c]), p);
     // past a cut there may be no place yet
     if run.cut {
         return run;

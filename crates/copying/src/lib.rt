@@ -1,13 +1,15 @@
 //! The first half of a collection: phase 1, the copies, phase 2.
 
-use bytes::copy;
 use codec::CollectionRecord;
 use codec::Spare;
-use codec::page_data;
+use codec::record_at;
 use codec::spare_at;
 use device::program;
 use device::store_collection;
+use fetch::fetch;
+use fetch::role_of;
 use layout::Geometry;
+use layout::NO_CHIP;
 use names::named_at;
 use steps::Progress;
 ghost use mathlib.Core.Path.{_≡_};
@@ -20,31 +22,45 @@ ghost use Rattle.layout.specs.Page.{pageAt};
 ghost use Rattle.layout.specs.Record.{recordAt};
 ghost use Rattle.layout.specs.Images.{slotsLength};
 ghost use Rattle.rules.specs.Blocks.{lowestCleanBlock};
-ghost use Rattle.rules.specs.Collect.{phase, copyOf, victimOf, copySteps};
+ghost use Rattle.rules.specs.Collect.{phase, copyOf, victimOf, copySteps, copyFeed};
 ghost use Rattle.steps.specs.Store.{program as programStore, collection};
 ghost use Rattle.steps.specs.Steps.{plain};
 ghost use Rattle.steps.specs.Allowance.{Sane, Ran, images};
-ghost use Rattle.codec.specs.Fit.{ChipsFit, RecordsFit};
+ghost use Rattle.codec.specs.Fit.{ChipsFit, RecordsFit, SlotsFit};
 ghost use Rattle.names.specs.Checked.{Settled};
+ghost use Rattle.copying.specs.Copyable.{Copyable};
 
-// Programs page q of chip c with a copy of its page p.
-fn copy_page(chips: &mut [u8], g: Geometry, c: usize, p: usize, q: usize, run: Progress) -> Progress
-    requires { ⌜ ChipsFit g (now chips) × (c ≤ g .n) × (p < pages (layoutOf g)) × (q < pages (layoutOf g)) × Sane run ⌝ }
+// Programs page q of chip c with a copy of its page p, which a record names.
+fn copy_page(
+    chips: &mut [u8],
+    records: &[u8],
+    slots: &[u8],
+    g: Geometry,
+    c: usize,
+    p: usize,
+    q: usize,
+    run: Progress,
+) -> Progress
+    requires { ⌜ ChipsFit g (now chips) × RecordsFit g (now records) × SlotsFit g (now slots) × (c ≤ g .n) × (p < pages (layoutOf g)) × (q < pages (layoutOf g))
+        × Sane run × Copyable (layoutOf g) (now chips) (now records) c p ⌝ }
     ensures { λ r. ⌜ ((rs zs : List ℕ) → Ran (layoutOf g) run
-        (record { reads = 1; store = programStore c q (copyOf p (pageAt (layoutOf g) (now (chips .entry)) c p)) } ∷ [])
+        (record { reads = 1; store = programStore c q (copyOf p (pageAt (layoutOf g) (now (chips .entry)) c p) (pageAt (layoutOf g) (now (chips .entry)) c p .bytes)) } ∷ [])
         r (images (now (chips .entry)) rs zs) (images (now (chips .exit)) rs zs)) ⌝ }
 {
     let mut work = [0u8; 4096];
     let w = g.w as usize;
     let t = spare_at(chips, g, c, p);
-    copy(&mut work[0..w], page_data(chips, g, c, p));
+    let j = t.stripe;
+    let e = record_at(records, g, j);
+    let role = role_of(g, e, j, c, p);
+    let got = fetch(&mut work[0..w], chips, slots, g, NO_CHIP, j, e, role);
     let spare = Spare {
         kind: t.kind,
         member: t.member,
-        stripe: t.stripe,
+        stripe: j,
         copied: p,
     };
-    program(chips, g, c, q, &work[0..w], spare, 1, run)
+    program(chips, g, c, q, &work[0..w], spare, got.reads, run)
 }
 
 // Stores phase n of the collection of block v of chip c into block d.
@@ -74,6 +90,7 @@ fn store_phase(
 pub fn copy_block(
     chips: &mut [u8],
     records: &mut [u8],
+    slots: &[u8],
     g: Geometry,
     c: usize,
     v: usize,
@@ -82,9 +99,9 @@ pub fn copy_block(
 ) -> Progress
     requires { ⌜ Settled g (now chips) (now records) × (c ≤ g .n) × Sane p
         × (victimOf (layoutOf g) c (pageAt (layoutOf g) (now chips) c) (recordAt (layoutOf g) (now records)) ≡ At v)
-        × (lowestCleanBlock (layoutOf g) (pageAt (layoutOf g) (now chips) c) ≡ At d) ⌝ }
+        × (lowestCleanBlock (layoutOf g) (pageAt (layoutOf g) (now chips) c) ≡ At d) × SlotsFit g (now slots) ⌝ }
     ensures { λ r. ⌜ ((zs : List ℕ) → length zs ≡ slotsLength (layoutOf g) → Ran (layoutOf g) p
-        (copySteps (layoutOf g) c (pageAt (layoutOf g) (now (chips .entry)) c) (recordAt (layoutOf g) (now (records .entry))) v d)
+        (copySteps (layoutOf g) c (pageAt (layoutOf g) (now (chips .entry)) c) (copyFeed (layoutOf g) c (images (now (chips .entry)) (now (records .entry)) zs)) (recordAt (layoutOf g) (now (records .entry))) v d)
         r (images (now (chips .entry)) (now (records .entry)) zs) (images (now (chips .exit)) (now (records .exit)) zs)) ⌝ }
 {
     let k = g.k as usize;
@@ -98,7 +115,7 @@ pub fn copy_block(
         }
         let page = v * k + i;
         if named_at(chips, records, g, c, page) {
-            run = copy_page(chips, g, c, page, d * k + copies, run);
+            run = copy_page(chips, records, slots, g, c, page, d * k + copies, run);
             copies += 1;
         }
         i += 1;

@@ -3,7 +3,7 @@ use Prim.Native.Nat.{ℕ}
 use mathlib.Core.Path.{_≡_, sym, ap, _∙_}
 use Rattle.layout.specs.Layout.{Layout}
 use Rattle.layout.specs.Record.{Record}
-use Rattle.rules.specs.Commit.{setBits, costOf, recordCost}
+use Rattle.rules.specs.Costs.{setBits, costOf, recordCost}
 
 -- from its bitmap, and the number of bits in that
 pub cost-is : (l : Layout) (r : ℕ → Record) (j : ℕ) {bitmap bits cost : ℕ} → bitmap ≡ r j .bitmap

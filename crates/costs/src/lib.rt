@@ -7,7 +7,7 @@ ghost use mathlib.Core.Bool.{true};
 ghost use Prim.Native.Nat.{_≤_, _<_};
 ghost use Rattle.layout.specs.Layout.{layoutOf, limits};
 ghost use Rattle.layout.specs.Record.{Record};
-ghost use Rattle.rules.specs.Commit.{setBits, mostInPartial, costOf};
+ghost use Rattle.rules.specs.Costs.{setBits, mostInPartial, costOf};
 
 // How many members are in a bitmap.
 pub fn set_bits(g: Geometry, bitmap: usize) -> usize

@@ -2,6 +2,7 @@
 use Prim.Native.Nat.{ℕ, _≤_, _<_}
 use native.Mathlib.Omega.{arith}
 use mathlib.Core.Path.{_≡_, refl, fun-ext}
+use mathlib.Core.Logic.{_≢_}
 use mathlib.Core.Bool.{Bool, true, false, not, cond, _&&_}
 use mathlib.Core.List.{List}
 use lib.Dec.{eqb}
@@ -16,18 +17,25 @@ use Rattle.layout.specs.Record.{Record, bit}
 use Rattle.layout.proofs.Limits.{Within}
 use Rattle.layout.proofs.Bits.{testBit}
 use Rattle.layout.proofs.Records.{bits-of-none}
-use Rattle.rules.specs.Read.{othersInside, othersUnderParity}
-use Rattle.rules.proofs.Soundness.Statements.{RecordSound}
-use Rattle.rules.proofs.Data.Parity.{numbered-others-inside, numbered-others-under-parity}
+use Rattle.rules.specs.declared.Role.{Role}
+use Rattle.rules.specs.declared.Role.the-variants.{Current, Old, Parity}
+use Rattle.rules.specs.Fetch.{numberIn, underParity, othersInside, othersUnderParity}
+use Rattle.rules.proofs.Soundness.Statements.{Numbered, RecordSound, sound-member}
+use Rattle.rules.proofs.Data.Parity.{numbered-under-parity, numbered-others-inside, numbered-others-under-parity}
 use Rattle.codec.specs.declared.StripeRecord.{StripeRecord}
 use Rattle.codec.specs.Views.{sixOf, recordFrom}
+use Rattle.fetch.specs.Into.{RoleFits}
 use Rattle.fetch.specs.Numbers.{NumbersFit}
 use Rattle.codec.proofs.Encodings.{six-in}
 use Rattle.fetch.proofs.Pages.{six-beyond}
 
 -- ---- numbers from the struct
 
--- the current page of a member
+-- the current page of a member, and the old one
+pub old-in : (g : Geometry) (e : StripeRecord) {r : Record} (m : ℕ) → recordFrom (layoutOf g) e ≡ r → m < 6 → r .old m ≡ getD (e .old) m 0
+unfolding recordFrom
+old-in g e m q h = rw (← q) (six-in (layoutOf g) (e .old) m h)
+
 pub current-in : (g : Geometry) (e : StripeRecord) {r : Record} (m : ℕ) → recordFrom (layoutOf g) e ≡ r → m < 6 → r .current m ≡ getD (e .current) m 0
 unfolding recordFrom
 current-in g e m q h = rw (← q) (six-in (layoutOf g) (e .current) m h)
@@ -59,11 +67,18 @@ module _ (g : Geometry) (e : StripeRecord) (m : ℕ) (six : length (e .current) 
       one-of true false p = refl
       one-of false s p = refl
 
-  pub under-chosen :
-      ((i : ℕ) → sixOf (layoutOf g) xs i ≡ cond (testBit (e .bitmap) i) (sixOf (layoutOf g) (e .old) i) (sixOf (layoutOf g) (set (e .current) m 65535) i))
-      → sixOf (layoutOf g) xs ≡ othersUnderParity (layoutOf g) m (recordFrom (layoutOf g) e)
-  unfolding othersUnderParity recordFrom bit none
-  under-chosen chosen = fun-ext λ i. rw (chosen i, without g i (e .current) m six h)
+-- the numbers under the parity
+pub under-chosen : (g : Geometry) (e : StripeRecord) (xs : List ℕ)
+    → ((i : ℕ) → sixOf (layoutOf g) xs i ≡ cond (testBit (e .bitmap) i) (sixOf (layoutOf g) (e .old) i) (sixOf (layoutOf g) (e .current) i))
+    → sixOf (layoutOf g) xs ≡ underParity (layoutOf g) (recordFrom (layoutOf g) e)
+unfolding underParity recordFrom bit
+under-chosen g e xs chosen = fun-ext λ i. rw (chosen i)
+
+-- and without member m
+pub under-without : (g : Geometry) (r : Record) (m : ℕ) → m < 6 → (xs : List ℕ) → length xs ≡ 6 → sixOf (layoutOf g) xs ≡ underParity (layoutOf g) r
+    → sixOf (layoutOf g) (set xs m 65535) ≡ othersUnderParity (layoutOf g) m r
+unfolding othersUnderParity none
+under-without g r m h xs six e = fun-ext λ i. rw (without g i xs m six h, e)
 
 -- ---- a sound record's numbers
 
@@ -82,5 +97,31 @@ module _ (g : Geometry) where
     inside-fit xs e = record { fits = λ i h. rw e (numbered-others-inside l w r s m i h) }
 
     -- so it is with those under the parity
-    pub under-fit : (xs : List ℕ) → sixOf l xs ≡ othersUnderParity l m r → NumbersFit g xs
-    under-fit xs e = record { fits = λ i h. rw e (numbered-others-under-parity l w r s m i h) }
+    pub others-under-fit : (xs : List ℕ) → sixOf l xs ≡ othersUnderParity l m r → NumbersFit g xs
+    others-under-fit xs e = record { fits = λ i h. rw e (numbered-others-under-parity l w r s m i h) }
+
+  pub under-fit : Within l → (r : Record) → RecordSound l r → (xs : List ℕ) → sixOf l xs ≡ underParity l r → NumbersFit g xs
+  under-fit w r s xs e = record { fits = λ i h. rw e (numbered-under-parity l w r s i h) }
+
+-- ---- roles
+
+-- the member of a role that is known
+pub current-fits : (g : Geometry) {role : Role} {m : ℕ} → role ≡ Current m → RoleFits g role → m < g .n
+current-fits g e h = rw e at h
+
+pub old-fits : (g : Geometry) {role : Role} {m : ℕ} → role ≡ Old m → RoleFits g role → m < g .n
+old-fits g e h = rw e at h
+
+-- it has a page
+pub current-there : (l : Layout) (r : Record) {role : Role} {m : ℕ} → role ≡ Current m → numberIn l r role ≢ none l → r .current m ≢ none l
+current-there l r e h = rw e at h
+
+pub old-there : (l : Layout) (r : Record) {role : Role} {m : ℕ} → role ≡ Old m → numberIn l r role ≢ none l → r .old m ≢ none l
+old-there l r e h = rw e at h
+
+-- which is one of its chip
+pub role-number : (g : Geometry) → Within (layoutOf g) → (r : Record) → RecordSound (layoutOf g) r → (role : Role) → RoleFits g role
+    → Numbered (layoutOf g) (numberIn (layoutOf g) r role)
+role-number g w r s (Current m) h = sound-member (layoutOf g) w r s m h .current
+role-number g w r s (Old m) h = sound-member (layoutOf g) w r s m h .old
+role-number g w r s Parity h = s .parity

@@ -1,29 +1,34 @@
--- Six page numbers chosen one by one, the pages of a stripe XORed member by member, and the front of the work page.
-use Prim.Native.Nat.{ℕ, _+_, _-_, _≤_, _<_}
+-- Six page numbers chosen one by one, and the pages of a stripe XORed member by member.
+use Prim.Native.Nat.{ℕ, _+_, _≤_, _<_}
 use native.Mathlib.Numerals.{add-one}
 use native.Mathlib.Omega.{arith}
-use mathlib.Core.Path.{_≡_, refl}
+use mathlib.Core.Path.{_≡_, refl, _∙_}
 use mathlib.Core.Logic.{_≢_}
 use mathlib.Core.Bool.{true, false, cond}
-use mathlib.Core.List.{List, _++_}
-use lib.ListN.{length, getD, set, take, drop, replicate, length-set}
+use mathlib.Core.List.{List}
+use lib.ListN.{length, getD, set, length-set}
 use lib.Seq.{getD-set-same, getD-set-other}
+use lib.Dec.{eqb}
 use borrow.Author.Tests.{eq-eqb, ne-eqb, le-ltb}
 use Rattle.ranges.specs.Look.{countBelow}
 use Rattle.bytes.specs.Xor.{_⊕_, xorBelow}
-use Rattle.ranges.proofs.Looks.{at-last, by-order}
+use Rattle.ranges.proofs.Looks.{by-test, at-last, by-order}
 use Rattle.ranges.proofs.Tests.{cond-same}
 use Rattle.ranges.proofs.Counts.{count-le}
-use Rattle.bytes.proofs.Xors.{xors-assoc, xor-nil-r, length-xors-left, xors-zeros-l}
+use Rattle.bytes.proofs.Xors.{xors-assoc, xor-nil-r, length-xors-left}
 use Rattle.layout.specs.declared.Geometry.{Geometry}
-use Rattle.layout.specs.Layout.{layoutOf, none}
+use Rattle.layout.specs.Layout.{Layout, layoutOf, none}
 use Rattle.layout.specs.Rotation.{memberChip}
 use Rattle.layout.proofs.Bits.{testBit}
-use Rattle.layout.specs.Page.{pageAt}
-use Rattle.bytes.proofs.Work.{front-back}
-use Rattle.rules.specs.Gather.{bytesAt, memberBytes, isPage, gathered, gatheredReads}
-use Rattle.rules.specs.Read.{Fetched}
+use Rattle.layout.specs.Page.{Page, pageAt}
+use Rattle.layout.specs.Record.{Record}
+use Rattle.rules.specs.Gather.{bytesAt, readsAt, memberBytes, isPage, gathered, gatheredReads}
+use Rattle.rules.specs.declared.Role.{Role}
+use Rattle.rules.specs.declared.Origin.the-variants.{Unwritten, Direct}
+use Rattle.rules.specs.Fetch.{Fetched, chipIn, numberIn, rebuilt, fetchRole}
 use Rattle.codec.specs.Views.{sixOf}
+use Rattle.fetch.specs.declared.Got.{Got}
+use Rattle.fetch.specs.Into.{Into}
 use Rattle.codec.proofs.Encodings.{six-in}
 
 -- ---- six numbers
@@ -72,9 +77,9 @@ module _ {bitmap : ℕ} {inside outside : List ℕ} {i : ℕ} {xs : List ℕ} (s
 
 -- ---- XOR over the members
 
--- what is XORed into zeros stands there
-pub into-zeros : (w : ℕ) {xs ys zs : List ℕ} → xs ≡ replicate w 0 → length zs ≡ w → ys ≡ xs ⊕ zs → ys ≡ zs
-into-zeros w {xs} {ys} {zs} z h e = rw (e, z) (xors-zeros-l w zs (omega arith))
+-- a page XORed into one of the same length leaves that length
+pub as-long : {w : ℕ} (xs zs : List ℕ) {ys : List ℕ} → ys ≡ xs ⊕ zs → length xs ≡ w → length zs ≡ w → length ys ≡ w
+as-long xs zs e h k = rw e (length-xors-left xs zs (omega arith) ∙ h)
 
 -- the data of the page of each member
 abbrev bytesOf : Geometry → List ℕ → ℕ → List ℕ → ℕ → List ℕ
@@ -139,12 +144,37 @@ module _ {g : Geometry} {chips : List ℕ} {j : ℕ} {numbers work₀ : List ℕ
       let few = gathered-few in
       (rw all at (s .bytes), rw all at (s .counted), omega arith)
 
--- ---- the work page
+-- ---- what a fetch leaves
 
--- where a rebuilt page comes back as its first w bytes, they are that page
-pub front-fetched : (w n : ℕ) → w ≤ n → {ys xs : List ℕ} {k reads : ℕ} {f : Fetched} → length ys ≡ length (take {A = ℕ} (w - 0) (replicate n 0))
-    → xs ≡ ys ++ drop (w - 0) (replicate n 0) → k ≡ reads → record { bytes = ys; reads = reads } ≡ f
-    → (w ≤ length xs) × (record { bytes = take (w - 0) xs; reads = k } ≡ f)
-front-fetched w n h {ys} same e q known =
-    let (long, front) = front-back w n h {ys = ys} same e in
-    (long, rw (front, q) known)
+-- the same page, into the same bytes
+pub into-same : {x x′ : Fetched} {b b′ a : List ℕ} {g : Got} → x ≡ x′ → b ≡ b′ → Into x b a g → Into x′ b′ a g
+into-same e q h = rw (← e, ← q) h
+
+-- x is a and then b
+pub into-two : {x : Fetched} (a b : List ℕ) {before after : List ℕ} {r : Got} → x .bytes ≡ a ⊕ b → after ≡ before ⊕ a ⊕ b → r .reads ≡ x .reads → r .origin ≡ x .origin → r .reads ≤ 7
+    → Into x before after r
+into-two a b {before} e after reads origin few =
+    record { bytes = rw (after, e) (xors-assoc before a b); reads = reads; origin = origin; few = few }
+
+-- a fetch by its three ways
+module _ (l : Layout) (y : ℕ → ℕ → Page) (z : ℕ → List ℕ) (j : ℕ) (r : Record) (lost : ℕ) (role : Role) where
+  -- there is no page
+  pub fetched-none : {before : List ℕ} → numberIn l r role ≡ none l → Into (fetchRole l y z j r lost role) before before (record { reads = 0; origin = Unwritten })
+  unfolding fetchRole bytesAt readsAt
+  fetched-none {before} e =
+      by-test (eqb (chipIn l j role) lost)
+      (λ t. rw (t, e, eq-eqb (none l) (none l) refl) (record { bytes = rw (xor-nil-r before); reads = refl; origin = refl; few = omega arith }))
+      (λ t. rw (t, e, eq-eqb (none l) (none l) refl) (record { bytes = rw (xor-nil-r before); reads = refl; origin = refl; few = omega arith }))
+
+  module _ {before after : List ℕ} (there : numberIn l r role ≢ none l) where
+    -- its chip is lost
+    pub fetched-lost : {g : Got} → chipIn l j role ≡ lost → Into (rebuilt l y z j r role) before after g → Into (fetchRole l y z j r lost role) before after g
+    unfolding fetchRole
+    fetched-lost e h = rw (eq-eqb (chipIn l j role) lost e, ne-eqb (numberIn l r role) (none l) there) h
+
+    -- or not
+    pub fetched-direct : chipIn l j role ≢ lost → after ≡ before ⊕ y (chipIn l j role) (numberIn l r role) .bytes
+        → Into (fetchRole l y z j r lost role) before after (record { reads = 1; origin = Direct })
+    unfolding fetchRole bytesAt readsAt
+    fetched-direct d e =
+        rw (ne-eqb (chipIn l j role) lost d, ne-eqb (numberIn l r role) (none l) there) (record { bytes = e; reads = refl; origin = refl; few = omega arith })

@@ -1,6 +1,5 @@
-//! XOR over the pages of a stripe, and the read of a page.
+//! One page of a stripe, fetched in its role: XORed into a buffer, from the other chips where its own is lost.
 
-use bytes::copy;
 use bytes::fill;
 use bytes::xor_into;
 use codec::NONE;
@@ -12,26 +11,40 @@ use codec::parity_chip;
 use codec::record_at;
 use codec::slot_data;
 use layout::Geometry;
+use rules::Origin;
+use rules::Role;
 ghost use mathlib.Core.Path.{_≡_};
 ghost use mathlib.Core.Logic.{_≢_};
 ghost use mathlib.Core.Bool.{true, cond};
+ghost use mathlib.Core.List.{List};
 ghost use Prim.Native.Nat.{ℕ, _/_, _%_, _^_, _≤_, _<_};
 ghost use lib.Dec.{eqb};
-ghost use lib.ListN.{length, replicate};
+ghost use lib.ListN.{length};
 ghost use Rattle.bytes.specs.Xor.{_⊕_};
-ghost use Rattle.layout.specs.Layout.{layoutOf, none};
+ghost use Rattle.layout.specs.Layout.{layoutOf, limits, none};
 ghost use Rattle.layout.specs.Page.{pageAt};
 ghost use Rattle.layout.specs.Record.{bit, recordAt};
 ghost use Rattle.layout.specs.Images.{slotAt};
+ghost use Rattle.steps.specs.Allowance.{images};
+ghost use Rattle.rules.specs.Names.{roleOf};
 ghost use Rattle.rules.specs.Gather.{gathered, gatheredReads};
 ghost use Rattle.rules.specs.Sound.{recordSound};
-ghost use Rattle.rules.specs.Read.{othersInside, othersUnderParity, throughPartial, throughParity, rebuilt, fetchMember};
+ghost use Rattle.rules.specs.Fetch.{chipIn, numberIn, underParity, othersUnderParity, othersInside, throughPartial, throughParity, rebuilt, fetchRole};
+ghost use Rattle.rules.specs.Read.{fetchMember};
 ghost use Rattle.codec.specs.Fit.{ChipsFit, RecordsFit, SlotsFit};
 ghost use Rattle.codec.specs.Views.{sixOf, recordFrom};
 ghost use Rattle.fetch.specs.Numbers.{NumbersFit};
+ghost use Rattle.fetch.specs.Into.{RoleFits, Into};
+
+// What a fetch tells, besides the bytes.
+pub struct Got {
+    // pages read for it
+    pub reads: u64,
+    pub origin: Origin,
+}
 
 // XORs into work the page of each member of stripe j that has a number, and answers how many were read.
-pub fn gather(work: &mut [u8], chips: &[u8], g: Geometry, j: usize, numbers: [usize; 6]) -> u64
+fn gather(work: &mut [u8], chips: &[u8], g: Geometry, j: usize, numbers: [usize; 6]) -> u64
     requires { ⌜ ChipsFit g (now chips) × (length (now work) ≡ g .w) × NumbersFit g numbers ⌝ }
     ensures { λ r. ⌜ (now (work .exit) ≡ now (work .entry) ⊕ gathered (layoutOf g) (pageAt (layoutOf g) (now (chips .entry))) j (sixOf (layoutOf g) numbers))
         × (r ≡ gatheredReads (layoutOf g) (sixOf (layoutOf g) numbers)) × (r ≤ 6) ⌝ }
@@ -51,7 +64,7 @@ pub fn gather(work: &mut [u8], chips: &[u8], g: Geometry, j: usize, numbers: [us
 }
 
 // The numbers of the members in the bitmap, from inside, and those of the others, from outside.
-pub fn chosen(bitmap: usize, inside: [usize; 6], outside: [usize; 6]) -> [usize; 6]
+fn chosen(bitmap: usize, inside: [usize; 6], outside: [usize; 6]) -> [usize; 6]
     ensures { λ r. ⌜ ((g : Geometry) (i : ℕ) → sixOf (layoutOf g) r i
         ≡ cond (eqb (bitmap / 2 ^ i % 2) 1) (sixOf (layoutOf g) inside i) (sixOf (layoutOf g) outside i)) ⌝ }
 {
@@ -76,82 +89,174 @@ fn others_inside(e: StripeRecord, m: usize) -> [usize; 6]
     chosen(e.bitmap, current, [NONE; 6])
 }
 
-// The pages that the parity was stored over, but for member m: the old ones of the bitmap, and the current ones of the others.
+// The pages that the parity was stored over: the old ones of the bitmap, and the current ones of the others.
+fn under_parity(e: StripeRecord) -> [usize; 6]
+    ensures { λ r. ⌜ ((g : Geometry) → sixOf (layoutOf g) r ≡ underParity (layoutOf g) (recordFrom (layoutOf g) e)) ⌝ }
+{
+    let old = e.old;
+    let current = e.current;
+    chosen(e.bitmap, old, current)
+}
+
+// The same but for member m.
 fn others_under_parity(e: StripeRecord, m: usize) -> [usize; 6]
     requires { ⌜ m < 6 ⌝ }
     ensures { λ r. ⌜ ((g : Geometry) → sixOf (layoutOf g) r ≡ othersUnderParity (layoutOf g) m (recordFrom (layoutOf g) e)) ⌝ }
 {
-    let old = e.old;
-    let mut current = e.current;
-    current[m] = NONE;
-    chosen(e.bitmap, old, current)
+    let mut numbers = under_parity(e);
+    numbers[m] = NONE;
+    numbers
 }
 
-// Work, of zeros, becomes member m of stripe j as the partial parity has it.
+// XORs into work member m of stripe j as the partial parity has it.
 fn through_partial(
     work: &mut [u8],
     chips: &[u8],
     slots: &[u8],
     g: Geometry,
     j: usize,
-    m: usize,
     e: StripeRecord,
-) -> u64
-    requires { ⌜ ChipsFit g (now chips) × SlotsFit g (now slots) × (now work ≡ replicate (g .w) 0) × (m < g .n)
+    m: usize,
+) -> Got
+    requires { ⌜ ChipsFit g (now chips) × SlotsFit g (now slots) × (length (now work) ≡ g .w) × (m < g .n)
         × (recordSound (layoutOf g) (recordFrom (layoutOf g) e) ≡ true) × (bit (recordFrom (layoutOf g) e) m ≡ true) ⌝ }
-    ensures { λ r. ⌜ record { bytes = now (work .exit); reads = r }
-        ≡ throughPartial (layoutOf g) (pageAt (layoutOf g) (now (chips .entry))) (slotAt (layoutOf g) (now (slots .entry))) j m (recordFrom (layoutOf g) e) ⌝ }
+    ensures { λ r. ⌜ Into (throughPartial (layoutOf g) (pageAt (layoutOf g) (now (chips .entry))) (slotAt (layoutOf g) (now (slots .entry))) j (recordFrom (layoutOf g) e) m)
+        (now (work .entry)) (now (work .exit)) r ⌝ }
 {
     xor_into(work, slot_data(slots, g, e.slot));
-    gather(work, chips, g, j, others_inside(e, m))
+    Got {
+        reads: gather(work, chips, g, j, others_inside(e, m)),
+        origin: Origin::Partial,
+    }
 }
 
-// The same through the parity page.
+// The page of member m that the parity was stored over, through the parity page.
 fn through_parity(
     work: &mut [u8],
     chips: &[u8],
     g: Geometry,
     j: usize,
-    m: usize,
     e: StripeRecord,
-) -> u64
-    requires { ⌜ ChipsFit g (now chips) × (now work ≡ replicate (g .w) 0) × (m < g .n)
+    m: usize,
+) -> Got
+    requires { ⌜ ChipsFit g (now chips) × (length (now work) ≡ g .w) × (m < g .n)
         × (recordSound (layoutOf g) (recordFrom (layoutOf g) e) ≡ true) × (e .parity ≢ none (layoutOf g)) ⌝ }
-    ensures { λ r. ⌜ record { bytes = now (work .exit); reads = r }
-        ≡ throughParity (layoutOf g) (pageAt (layoutOf g) (now (chips .entry))) j m (recordFrom (layoutOf g) e) ⌝ }
+    ensures { λ r. ⌜ ((z : ℕ → List ℕ) → Into (throughParity (layoutOf g) (pageAt (layoutOf g) (now (chips .entry))) z j (recordFrom (layoutOf g) e) m)
+        (now (work .entry)) (now (work .exit)) r) ⌝ }
 {
     xor_into(work, page_data(chips, g, parity_chip(g, j), e.parity));
-    1 + gather(work, chips, g, j, others_under_parity(e, m))
+    Got {
+        reads: 1 + gather(work, chips, g, j, others_under_parity(e, m)),
+        origin: Origin::Full,
+    }
 }
 
-// The buffer becomes member m of stripe j, rebuilt from the other chips.
+// The page of stripe j in this role, rebuilt from the other chips.
 fn rebuild(
-    buffer: &mut [u8],
+    work: &mut [u8],
     chips: &[u8],
     slots: &[u8],
     g: Geometry,
     j: usize,
-    m: usize,
     e: StripeRecord,
-) -> u64
-    requires { ⌜ ChipsFit g (now chips) × SlotsFit g (now slots) × (length (now buffer) ≡ g .w) × (m < g .n)
-        × (recordSound (layoutOf g) (recordFrom (layoutOf g) e) ≡ true) × (recordFrom (layoutOf g) e .current m ≢ none (layoutOf g)) ⌝ }
-    ensures { λ r. ⌜ record { bytes = now (buffer .exit); reads = r }
-        ≡ rebuilt (layoutOf g) (pageAt (layoutOf g) (now (chips .entry))) (slotAt (layoutOf g) (now (slots .entry))) j m (recordFrom (layoutOf g) e) ⌝ }
+    role: Role,
+) -> Got
+    requires { ⌜ ChipsFit g (now chips) × SlotsFit g (now slots) × (length (now work) ≡ g .w) × RoleFits g role
+        × (recordSound (layoutOf g) (recordFrom (layoutOf g) e) ≡ true) × (numberIn (layoutOf g) (recordFrom (layoutOf g) e) role ≢ none (layoutOf g)) ⌝ }
+    ensures { λ r. ⌜ Into (rebuilt (layoutOf g) (pageAt (layoutOf g) (now (chips .entry))) (slotAt (layoutOf g) (now (slots .entry))) j (recordFrom (layoutOf g) e) role)
+        (now (work .entry)) (now (work .exit)) r ⌝ }
 {
-    let mut work = [0u8; 4096];
-    let w = g.w as usize;
-    let reads = if bit_of(e.bitmap, m) {
-        through_partial(&mut work[0..w], chips, slots, g, j, m, e)
-    } else {
-        through_parity(&mut work[0..w], chips, g, j, m, e)
-    };
-    copy(buffer, &work[0..w]);
-    reads
+    match role {
+        Role::Current(m) => {
+            if bit_of(e.bitmap, m) {
+                return through_partial(work, chips, slots, g, j, e, m);
+            }
+            through_parity(work, chips, g, j, e, m)
+        }
+        Role::Old(m) => through_parity(work, chips, g, j, e, m),
+        Role::Parity => Got {
+            reads: gather(work, chips, g, j, under_parity(e)),
+            origin: Origin::Full,
+        },
+    }
 }
 
-// The buffer becomes member m of stripe j, and the answer is how many pages were read for it.
+// The chip of the page of stripe j in this role.
+fn chip_of(g: Geometry, j: usize, role: Role) -> usize
+    requires { ⌜ (limits (layoutOf g) ≡ true) × RoleFits g role ⌝ }
+    ensures { λ r. ⌜ (r ≡ chipIn (layoutOf g) j role) × (r ≤ g .n) ⌝ }
+{
+    match role {
+        Role::Current(m) => member_chip(g, j, m),
+        Role::Old(m) => member_chip(g, j, m),
+        Role::Parity => parity_chip(g, j),
+    }
+}
+
+// Its number in the record.
+fn number_of(g: Geometry, e: StripeRecord, role: Role) -> usize
+    requires { ⌜ (limits (layoutOf g) ≡ true) × RoleFits g role ⌝ }
+    ensures { λ r. ⌜ r ≡ numberIn (layoutOf g) (recordFrom (layoutOf g) e) role ⌝ }
+{
+    match role {
+        Role::Current(m) => e.current[m],
+        Role::Old(m) => e.old[m],
+        Role::Parity => e.parity,
+    }
+}
+
+// The role of page p of chip c, which the record of stripe j names.
+pub fn role_of(g: Geometry, e: StripeRecord, j: usize, c: usize, p: usize) -> Role
+    requires { ⌜ (limits (layoutOf g) ≡ true) × (c ≤ g .n) ⌝ }
+    ensures { λ r. ⌜ (r ≡ roleOf (layoutOf g) c j (recordFrom (layoutOf g) e) p) × RoleFits g r ⌝ }
+{
+    let parity = parity_chip(g, j);
+    if c == parity {
+        return Role::Parity;
+    }
+    let m = if c < parity { c } else { c - 1 };
+    if e.current[m] == p {
+        return Role::Current(m);
+    }
+    Role::Old(m)
+}
+
+// XORs into work the page of stripe j in this role, or what it is rebuilt from where its chip is lost; of no page, nothing.
 pub fn fetch(
+    work: &mut [u8],
+    chips: &[u8],
+    slots: &[u8],
+    g: Geometry,
+    lost: usize,
+    j: usize,
+    e: StripeRecord,
+    role: Role,
+) -> Got
+    requires { ⌜ ChipsFit g (now chips) × SlotsFit g (now slots) × (length (now work) ≡ g .w) × RoleFits g role
+        × (recordSound (layoutOf g) (recordFrom (layoutOf g) e) ≡ true) ⌝ }
+    ensures { λ r. ⌜ Into (fetchRole (layoutOf g) (pageAt (layoutOf g) (now (chips .entry))) (slotAt (layoutOf g) (now (slots .entry))) j (recordFrom (layoutOf g) e) lost role)
+        (now (work .entry)) (now (work .exit)) r ⌝ }
+{
+    let p = number_of(g, e, role);
+    if p == NONE {
+        return Got {
+            reads: 0,
+            origin: Origin::Unwritten,
+        };
+    }
+    let c = chip_of(g, j, role);
+    if c == lost {
+        return rebuild(work, chips, slots, g, j, e, role);
+    }
+    xor_into(work, page_data(chips, g, c, p));
+    Got {
+        reads: 1,
+        origin: Origin::Direct,
+    }
+}
+
+// The buffer becomes member m of stripe j.
+pub fn read_member(
     buffer: &mut [u8],
     chips: &[u8],
     records: &[u8],
@@ -160,22 +265,13 @@ pub fn fetch(
     lost: usize,
     j: usize,
     m: usize,
-) -> u64
+) -> Got
     requires { ⌜ ChipsFit g (now chips) × RecordsFit g (now records) × SlotsFit g (now slots) × (length (now buffer) ≡ g .w) × (j < g .s) × (m < g .n)
         × (recordSound (layoutOf g) (recordAt (layoutOf g) (now records) j) ≡ true) ⌝ }
-    ensures { λ r. ⌜ record { bytes = now (buffer .exit); reads = r }
-        ≡ fetchMember (layoutOf g) (pageAt (layoutOf g) (now (chips .entry))) (slotAt (layoutOf g) (now (slots .entry))) lost j m (recordAt (layoutOf g) (now (records .entry)) j) ⌝ }
+    ensures { λ r. ⌜ record { bytes = now (buffer .exit); reads = r .reads; origin = r .origin }
+        ≡ fetchMember (layoutOf g) (images (now (chips .entry)) (now (records .entry)) (now (slots .entry))) lost j m ⌝ }
 {
+    fill(buffer, 0);
     let e = record_at(records, g, j);
-    let p = e.current[m];
-    if p == NONE {
-        fill(buffer, 0);
-        return 0;
-    }
-    let c = member_chip(g, j, m);
-    if c != lost {
-        copy(buffer, page_data(chips, g, c, p));
-        return 1;
-    }
-    rebuild(buffer, chips, slots, g, j, m, e)
+    fetch(buffer, chips, slots, g, lost, j, e, Role::Current(m))
 }

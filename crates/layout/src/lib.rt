@@ -1,4 +1,7 @@
-//! The geometry of a store, as its caller gives it.
+//! The geometry of a store, as its caller gives it, and the chip that may be lost.
+
+// The lost chip where none is.
+pub const NO_CHIP: usize = 255;
 
 // Letters and limits are those of document 01; any numbers may be given.
 #[repr(C)]

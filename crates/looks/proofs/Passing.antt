@@ -19,7 +19,7 @@ use Rattle.rules.specs.declared.Refusal.{Refusal}
 use Rattle.rules.specs.declared.Refusal.the-variants.{LostChip, Records, Spares, Collection}
 use Rattle.rules.specs.declared.Check.{Check}
 use Rattle.rules.specs.declared.Check.the-variants.{Passed, Failed}
-use Rattle.rules.specs.Sound.{recordSound}
+use Rattle.rules.specs.Sound.{recordSound, isLost}
 use Rattle.rules.specs.Refusals.{Row, pageRow, unless, checked, lostNamed, recordsCheck, sparesCheck, atRest, buffersRows, imagesRows, settledRows}
 use Rattle.rules.proofs.Soundness.Table.{by-check, not-passed, rows-passed, below-passed, below-failed, both-passed}
 use Rattle.rules.proofs.Soundness.Accepted.{buffers-accepted, images-accepted, settled-accepted}
@@ -68,7 +68,7 @@ pub rows-told : (l : Layout) (s : Images) (lost : ℕ) (above rest : List Row) {
 rows-told l s lost above rest seen e = e ∙ rw (look-check l s lost (checked above) seen) (sym (rows-below above rest))
 
 -- a look that ends in a refusal
-pub look-refused : (l : Layout) (s : Images) (lost : ℕ) {look : Look} {r : Refusal} {k : Check} → look ≡ nothing (l .K) r → Failed r ≡ k → look ≡ lookOf l s lost k
+pub look-refused : (l : Layout) (s : Images) (lost : ℕ) {look : Look} {r : Refusal} {k : Check} → look ≡ nothing r → Failed r ≡ k → look ≡ lookOf l s lost k
 look-refused l s lost e f = rw (sym f) e
 
 -- one that finds what there is
@@ -156,17 +156,20 @@ images-fit g s lost e =
       stripe = λ j low. record-pass l (recordAt l (s .records) j) (h .sound .stripes .stripe j low);
     }
 
--- and with no chip lost
-pub images-checked : (g : Geometry) (s : Images) (lost : ℕ) → checked (imagesRows (layoutOf g) s lost) ≡ Passed → lost ≡ noChip → Checked g (s .chips) (s .records)
-images-checked g s lost e none-lost =
+-- and the tests of the images have passed
+pub images-checked : (g : Geometry) (s : Images) (lost : ℕ) → checked (imagesRows (layoutOf g) s lost) ≡ Passed → Checked g lost (s .chips) (s .records)
+images-checked g s lost e =
     let l = layoutOf g in
     let h = images-accepted l s lost e in
     let fit = images-fit g s lost e .fit in
     record {
       chips-fit = fit .chips;
-      records-pass = record { fit = fit .records; pass = records-check-pass l s lost (h .sound) };
-      spares-pass = rw none-lost at (spares-check-pass l s lost (h .sound));
+      records-pass = record { fit = fit .records; pass = records-check-pass l s (isLost lost) (h .sound) };
+      spares-pass = spares-check-pass l s (isLost lost) (h .sound);
     }
+
+pub at-no-chip : {g : Geometry} {lost : ℕ} {chips records : List ℕ} → lost ≡ noChip → Checked g lost chips records → Checked g noChip chips records
+at-no-chip none-lost h = rw none-lost at h
 
 -- rows 1 to 6 have passed, and no chip is lost
 pub record StoreReady (g : Geometry) (s : Images) : Type 0 where
@@ -180,7 +183,7 @@ store-ready g s lost e none-lost =
     let h = settled-images l s lost e in
     record {
       settled = record {
-        checked = images-checked g s lost h none-lost;
+        checked = at-no-chip none-lost (images-checked g s lost h);
         at-rest = settled-accepted l s lost e none-lost .at-rest;
       };
       slots-fit = images-fit g s lost h .fit .slots;

@@ -20,16 +20,16 @@ abbrev pub below : Check → Check → Check
 below Passed rest = rest
 below (Failed r) rest = Failed r
 
--- the scan of no block: K named pages stand for no victim
-abbrev pub noBlock : ℕ → ChipScan
-noBlock k = record { ordered = true; clean = false; named = 0; victim = 0; fewest = k }
+-- the scan of no block
+abbrev pub noBlock : ChipScan
+noBlock = record { ordered = true; clean = false; named = 0; victim = record { at = Nothing; measure = 0 } }
 
 -- where the rows come to a refusal, nothing was looked at
-abbrev pub nothing : ℕ → Refusal → Look
-nothing k r =
+abbrev pub nothing : Refusal → Look
+nothing r =
     record {
       check = Failed r;
-      chips = replicate 7 (noBlock k);
+      chips = replicate 7 noBlock;
       slots = record { slotted = 0; cheapest = Nothing; free = Nothing };
     }
 
@@ -41,4 +41,4 @@ lookOf l s lost Passed =
       chips = chipScans l (recordAt l (s .records)) (pageAt l (s .chips)) lost (l .B);
       slots = slotScan l (recordAt l (s .records));
     }
-lookOf l s lost (Failed r) = nothing (l .K) r
+lookOf l s lost (Failed r) = nothing r

@@ -4,6 +4,7 @@
 use codec::collection_at;
 use layout::Geometry;
 use ranges::Found;
+use ranges::Least;
 use records::SlotScan;
 use records::geometry_passes;
 use records::lengths_pass;
@@ -44,15 +45,18 @@ pub fn buffers_check(g: Geometry, chips: &[u8], records: &[u8], slots: &[u8]) ->
 }
 
 // A look that ends in a refusal.
-fn refused(g: Geometry, r: Refusal) -> Look
-    ensures { λ o. ⌜ o ≡ nothing (g .k) r ⌝ }
+fn refused(r: Refusal) -> Look
+    ensures { λ o. ⌜ o ≡ nothing r ⌝ }
 {
+    let victim = Least {
+        at: Found::Nothing,
+        measure: 0,
+    };
     let none = ChipScan {
         ordered: true,
         clean: false,
         named: 0,
-        victim: 0,
-        fewest: g.k as usize,
+        victim,
     };
     let unseen = SlotScan {
         slotted: 0,
@@ -73,20 +77,20 @@ pub fn images_look(g: Geometry, chips: &[u8], records: &[u8], slots: &[u8], lost
 {
     let first = buffers_check(g, chips, records, slots);
     if let Check::Failed(r) = first {
-        return refused(g, r);
+        return refused(r);
     }
     let n = g.n as usize;
     if !((lost == 255) | (lost <= n)) {
-        return refused(g, Refusal::LostChip);
+        return refused(Refusal::LostChip);
     }
-    let scan = scan_records(g, records);
+    let scan = scan_records(g, records, lost);
     if !scan.sound {
-        return refused(g, Refusal::Records);
+        return refused(Refusal::Records);
     }
     let co = collection_at(records, g);
     let survey = scan_spares(chips, records, g, co, scan.names, lost);
     if !survey.sound {
-        return refused(g, Refusal::Spares);
+        return refused(Refusal::Spares);
     }
     let scans = survey.chips;
     let seen = scan.slots;
@@ -105,11 +109,11 @@ pub fn settled_look(g: Geometry, chips: &[u8], records: &[u8], slots: &[u8], los
     let look = images_look(g, chips, records, slots, lost);
     let first = look.check;
     if let Check::Failed(r) = first {
-        return refused(g, r);
+        return refused(r);
     }
     let co = collection_at(records, g);
     if co.phase != 0 {
-        return refused(g, Refusal::Collection);
+        return refused(Refusal::Collection);
     }
     look
 }

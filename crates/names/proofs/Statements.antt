@@ -19,7 +19,7 @@ use Rattle.layout.specs.Images.{Images, lengths, chipsLength, recordsLength, sl
 use Rattle.layout.proofs.Limits.{Within, within as in-limits}
 use Rattle.steps.specs.Allowance.{images}
 use Rattle.rules.specs.Blocks.{cleanBlock, orderedBlock}
-use Rattle.rules.specs.Sound.{collecting, stampedStripe, phase1Sound, phase2Sound, chipSound, soundOrLost, sparesSound}
+use Rattle.rules.specs.Sound.{collecting, stampedStripe, phase1Sound, phase2Sound, chipSound, soundOrExempt, sparesSound, isLost}
 use Rattle.rules.proofs.Soundness.Statements.{Usable, RecordsSound, ChipSound, Sound}
 use Rattle.rules.proofs.Soundness.RecordChecks.{records-sound}
 use Rattle.rules.proofs.Soundness.ChipChecks.{chip-sound}
@@ -39,7 +39,7 @@ chip-tests l r x c co e =
     let h = chain-all (allBelow (l .S) (stampedStripe l r x c)) (allBelow (l .B) (orderedBlock l x) ∷ phase ∷ []) e in
     (h .0, h .1 .0)
 
-module _ (g : Geometry) (chips records : List ℕ) (h : Checked g chips records) where
+module _ (g : Geometry) (chips records : List ℕ) (h : Checked g noChip chips records) where
   abbrev l : Layout
   l = layoutOf g
 
@@ -66,7 +66,7 @@ module _ (g : Geometry) (chips records : List ℕ) (h : Checked g chips records)
   unfolding sparesSound
   chip-test c low =
       unless-equal c noChip (chipSound l r (pageAt l chips c) c co)
-      (all-at (g .n + 1) (soundOrLost l r (pageAt l chips) co noChip) (h .spares-pass) c (omega arith))
+      (all-at (g .n + 1) (soundOrExempt l r (pageAt l chips) co (isLost noChip)) (h .spares-pass) c (omega arith))
       (omega (arith, within .members-high))
 
   -- so each chip is sound
@@ -90,7 +90,7 @@ module _ (g : Geometry) (chips records : List ℕ) (h : Checked g chips records)
   pub sound : (zs : List ℕ) → length zs ≡ slotsLength l → Sound l (images chips records zs)
   unfolding lengths
   sound zs e =
-      images-sound l (images chips records zs) noChip
+      images-sound l (images chips records zs) (isLost noChip)
       (rw (
         eq-eqb (length chips) (chipsLength l) (h .chips-fit .long),
         eq-eqb (length records) (recordsLength l) (h .records-pass .fit .long),
@@ -103,9 +103,9 @@ pub some-slots : (l : Layout) → (zs : List ℕ) × (length zs ≡ slotsLength 
 some-slots l = (replicate {A = ℕ} (slotsLength l) 0, length-replicate {A = ℕ} (slotsLength l) 0)
 
 -- sound images pass the tests
-pub checked : (g : Geometry) → limits (layoutOf g) ≡ true → (s : Images) → Sound (layoutOf g) s → Checked g (s .chips) (s .records)
+pub checked : (g : Geometry) → limits (layoutOf g) ≡ true → (s : Images) → Sound (layoutOf g) s → Checked g noChip (s .chips) (s .records)
 checked g limited s f = record {
   chips-fit = record { limited = limited; long = f .chips };
-  records-pass = record { fit = record { limited = limited; long = f .records }; pass = records-check-pass (layoutOf g) s noChip f };
-  spares-pass = spares-check-pass (layoutOf g) s noChip f;
+  records-pass = record { fit = record { limited = limited; long = f .records }; pass = records-check-pass (layoutOf g) s (isLost noChip) f };
+  spares-pass = spares-check-pass (layoutOf g) s (isLost noChip) f;
 }

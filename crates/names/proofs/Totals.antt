@@ -1,6 +1,6 @@
 -- The numbers of all records, chip by chip: as many pages are found by their stamps on all chips but the lost one as the records
 -- have numbers there exactly where every named page of every such chip is rightly stamped.
-use Prim.Native.Nat.{ℕ, _+_, _-_, _≤_, _<_}
+use Prim.Native.Nat.{ℕ, suc, _+_, _-_, _≤_, _<_}
 use native.Mathlib.Numerals.{add-one}
 use native.Mathlib.Omega.{arith}
 use mathlib.Core.Path.{_≡_, refl, sym, _∙_}
@@ -8,19 +8,20 @@ use mathlib.Core.Bool.{Bool, cond, _||_}
 use lib.Dec.{leb, eqb}
 use borrow.Author.Tests.{eq-eqb, le-leb, lt-leb}
 use Rattle.ranges.specs.Look.{allBelow, countBelow, sumBelow}
-use Rattle.ranges.proofs.Looks.{by-test, by-order, all-cong}
+use Rattle.ranges.proofs.Looks.{by-test, by-order, by-same, all-cong}
 use Rattle.layout.specs.Layout.{Layout, none, isNone, pages}
-use Rattle.layout.specs.Rotation.{parityChip, memberChip}
+use Rattle.layout.specs.Rotation.{parityChip, memberChip, memberOn}
 use Rattle.layout.specs.Page.{Page}
 use Rattle.layout.specs.Record.{Record}
 use Rattle.layout.proofs.Limits.{Within}
-use Rattle.layout.proofs.Rotations.{parity-chip-fits}
+use Rattle.layout.proofs.Rotations.{parity-chip-fits, chip-of-member, member-on-fits}
 use Rattle.rules.specs.Sound.{stampedStripe}
 use Rattle.rules.proofs.Soundness.Statements.{RecordSound}
 use Rattle.rules.proofs.Stores.Names.{main-member, side-member, main-parity, side-parity}
-use Rattle.names.specs.Stamps.{byStamp, hasMain, hasSide, namesBelow, hasCurrent, hasOld, recordNames, namesIn}
+use Rattle.names.specs.Stamps.{byStamp, hasMain, hasSide, namesOn, namesBelow, hasCurrent, hasOld, recordNames, namesIn, namesKept}
+use Rattle.ranges.proofs.Counts.{count-positive}
 use Rattle.ranges.proofs.Tallies.{ones}
-use Rattle.ranges.proofs.Sums.{sum-cong, sum-at, sum-same, sum-beyond, sum-swap, counts-sum, sum-gap, but, sum-but-none, sum-but}
+use Rattle.ranges.proofs.Sums.{sum-start, sum-more, sum-cong, sum-same, sum-beyond, sum-swap, counts-sum, sum-gap, but, sum-but-none, sum-but}
 use Rattle.names.proofs.Stamping.{stamps-few, stamps-counted}
 
 -- of the pages y of each chip but the lost one: those that are found by their stamps
@@ -31,14 +32,6 @@ foundOn l r y lost c = cond (eqb c lost) 0 (countBelow (pages l) (byStamp l r (y
 abbrev pub stampedOrLost : (l : Layout) → (ℕ → Record) → (ℕ → ℕ → Page) → ℕ → ℕ → Bool
 stampedOrLost l r y lost c = eqb c lost || allBelow (l .S) (stampedStripe l r (y c) c)
 
--- the numbers on all chips but the lost one
-abbrev pub namesKept : (l : Layout) → (ℕ → Record) → ℕ → ℕ
-namesKept l r lost = cond (leb lost (l .N)) (namesIn l r (l .S) - namesBelow l r lost (l .S)) (namesIn l r (l .S))
-
--- how many numbers the record of stripe j has on chip c
-abbrev namesOn : (l : Layout) → (ℕ → Record) → ℕ → ℕ → ℕ
-namesOn l r j c = ones (hasMain l r c j) + ones (hasSide l r c j)
-
 -- how many of member m the record has
 abbrev namesOf : (l : Layout) → Record → ℕ → ℕ
 namesOf l r m = ones (hasCurrent l r m) + ones (hasOld l r m)
@@ -47,6 +40,10 @@ namesOf l r m = ones (hasCurrent l r m) + ones (hasOld l r m)
 chip-sum : (l : Layout) (r : ℕ → Record) (c n : ℕ) → namesBelow l r c n ≡ sumBelow n (λ j. namesOn l r j c)
 unfolding namesBelow
 chip-sum l r c n = counts-sum n (hasMain l r c) (hasSide l r c)
+
+-- none before the first
+pub chip-none : (l : Layout) (r : ℕ → Record) (c : ℕ) → namesBelow l r c 0 ≡ 0
+chip-none l r c = chip-sum l r c 0 ∙ sum-start (λ j. namesOn l r j c)
 
 module _ (l : Layout) (w : Within l) (r : ℕ → Record) where
   open Layout l using (N, S)
@@ -76,6 +73,24 @@ module _ (l : Layout) (w : Within l) (r : ℕ → Record) where
       let gap = sum-gap N (parityChip l j) (namesOn l r j) (namesOf l (r j)) (omega (arith, parity-chip-fits l j)) (λ m _. member-names j m) in
       rw add-one (omega (arith, parity-names j))
 
+  -- a record, sound or not, has no more numbers on one chip than in all
+  pub on-few : (j c : ℕ) → c ≤ N → namesOn l r j c ≤ recordNames l (r j)
+  unfolding recordNames
+  on-few j c low = by-same c (parityChip l j)
+      (λ e. rw (e, parity-names j) (omega arith))
+      (λ d.
+      let m = memberOn l j c in
+      let six : m < 6 = omega (arith, member-on-fits l j c (omega arith) d, w .members-high) in
+      rw (← chip-of-member l j c d, member-names j m)
+      (omega (arith, at-least (hasCurrent l (r j)) m six, at-least (hasOld l (r j)) m six)))
+    where
+      at-least : (f : ℕ → Bool) (m : ℕ) → m < 6 → ones (f m) ≤ countBelow 6 f
+      at-least f m six = by-test (f m) (λ t. rw t (count-positive 6 f m six t)) (λ t. rw t (omega arith))
+
+  -- the numbers of the chip with one stripe more
+  pub chip-more : (c j : ℕ) → namesBelow l r c (j + 1) ≡ namesBelow l r c j + namesOn l r j c
+  chip-more c j = rw (add-one, chip-sum l r c (suc j), chip-sum l r c j) (sum-more j (λ i. namesOn l r i c))
+
   module _ (sound : (j : ℕ) → j < S → RecordSound l (r j)) where
     -- all numbers, chip by chip
     names-sum : namesIn l r S ≡ sumBelow (N + 1) (λ c. namesBelow l r c S)
@@ -84,12 +99,9 @@ module _ (l : Layout) (w : Within l) (r : ℕ → Record) where
         ∙ sum-swap S (N + 1) (namesOn l r)
         ∙ sum-cong (N + 1) (λ c. sumBelow S (λ j. namesOn l r j c)) (λ c. namesBelow l r c S) (λ c _. sym (chip-sum l r c S))
 
-    -- one chip has no more numbers than all
-    pub names-le : (c : ℕ) → c ≤ N → namesBelow l r c S ≤ namesIn l r S
-    names-le c h = rw names-sum (sum-at (N + 1) (λ c. namesBelow l r c S) c (omega arith))
-
     -- the numbers kept are those of all chips but the lost one
     kept-sum : (lost : ℕ) → namesKept l r lost ≡ sumBelow (N + 1) (but lost (λ c. namesBelow l r c S))
+    unfolding namesKept
     kept-sum lost =
         let names : ℕ → ℕ = λ c. namesBelow l r c S in
         by-order N lost

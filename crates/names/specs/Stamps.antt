@@ -1,9 +1,9 @@
 -- Whether a record names a page, found from the page's own spare bytes: only the record of the stripe that they give is looked at.
-use Prim.Native.Nat.{ℕ, _+_, _≤_}
+use Prim.Native.Nat.{ℕ, _+_, _-_, _≤_}
 use mathlib.Core.Path.{_≡_}
 use mathlib.Core.Bool.{Bool, true, not, cond, _&&_}
 use mathlib.Core.List.{List}
-use lib.Dec.{ltb}
+use lib.Dec.{leb, ltb}
 use Rattle.ranges.specs.Look.{allBelow, countBelow, sumBelow}
 use Rattle.layout.specs.declared.Geometry.{Geometry}
 use Rattle.layout.specs.Layout.{Layout, isNone, layoutOf}
@@ -15,7 +15,7 @@ use Rattle.codec.specs.Fit.{ChipsFit, RecordsFit}
 use Rattle.names.specs.declared.StripePages.{StripePages}
 
 module _ (l : Layout) where
-  open Layout l using (S)
+  open Layout l using (N, S)
 
   -- what record r of stripe j says of chip c, as the code's struct
   unfoldable pub pagesOn : ℕ → ℕ → Record → StripePages
@@ -40,6 +40,14 @@ module _ (l : Layout) where
   abbrev pub hasSide : (ℕ → Record) → ℕ → ℕ → Bool
   hasSide r c j = not (isNone l (sideNumber l c j (r j)))
 
+  -- how many numbers the record of stripe j has on chip c
+  abbrev pub namesOn : (ℕ → Record) → ℕ → ℕ → ℕ
+  namesOn r j c = cond (hasMain r c j) 1 0 + cond (hasSide r c j) 1 0
+
+  -- and on the lost chip, if it is one
+  unfoldable pub namesLost : (ℕ → Record) → ℕ → ℕ → ℕ
+  namesLost r lost j = cond (leb lost N) (namesOn r j lost) 0
+
   -- how many pages of chip c the records below n name
   unfoldable pub namesBelow : (ℕ → Record) → ℕ → ℕ → ℕ
   namesBelow r c n = countBelow n (hasMain r c) + countBelow n (hasSide r c)
@@ -59,6 +67,10 @@ module _ (l : Layout) where
   -- how many page numbers the records below n have
   abbrev pub namesIn : (ℕ → Record) → ℕ → ℕ
   namesIn r n = sumBelow n (λ j. recordNames (r j))
+
+  -- how many of those of all records are on the chips that are there: all but the lost one
+  unfoldable pub namesKept : (ℕ → Record) → ℕ → ℕ
+  namesKept r lost = cond (leb lost N) (namesIn r S - namesBelow r lost S) (namesIn r S)
 
 -- each page that a record names on chip c has its stamp
 pub record StampsPass (g : Geometry) (chips records : List ℕ) (c : ℕ) : Type 0 where

@@ -1,11 +1,13 @@
 //! Which pages the records name.
 
-use bytes::number_at;
 use codec::DATA;
 use codec::NONE;
 use codec::PARITY;
 use codec::Spare;
 use codec::parity_chip;
+use codec::scan::LAST;
+use codec::scan::OLD;
+use codec::scan::number_in;
 use codec::spare_at;
 use layout::Geometry;
 ghost use mathlib.Core.Path.{_≡_};
@@ -16,7 +18,7 @@ ghost use Rattle.layout.specs.Record.{recordAt};
 ghost use Rattle.rules.specs.Names.{named};
 ghost use Rattle.codec.specs.Fit.{RecordsFit};
 ghost use Rattle.codec.specs.Views.{spareOf};
-ghost use Rattle.names.specs.Stamps.{pagesOn, byStamp, namesBelow, StampsPass};
+ghost use Rattle.names.specs.Stamps.{pagesOn, byStamp, namesOn, StampsPass};
 
 // The pages of a stripe on one chip: their numbers, the side number being an old page's or none, and their stamp.
 struct StripePages {
@@ -31,11 +33,10 @@ fn stripe_pages(records: &[u8], g: Geometry, c: usize, j: usize) -> StripePages
     requires { ⌜ RecordsFit g (now records) × (c ≤ g .n) × (j < g .s) ⌝ }
     ensures { λ r. ⌜ r ≡ pagesOn (layoutOf g) c j (recordAt (layoutOf g) (now (records .entry)) j) ⌝ }
 {
-    let a = j * 32;
     let parity = parity_chip(g, j);
     if c == parity {
         return StripePages {
-            main: number_at(records, a + 24),
+            main: number_in(records, g, j, LAST),
             side: NONE,
             kind: PARITY,
             member: 0,
@@ -43,8 +44,8 @@ fn stripe_pages(records: &[u8], g: Geometry, c: usize, j: usize) -> StripePages
     }
     let m = if c < parity { c } else { c - 1 };
     StripePages {
-        main: number_at(records, a + 2 * m),
-        side: number_at(records, a + 12 + 2 * m),
+        main: number_in(records, g, j, m),
+        side: number_in(records, g, j, OLD + m),
         kind: DATA,
         member: m,
     }
@@ -78,23 +79,13 @@ pub fn named_at(chips: &[u8], records: &[u8], g: Geometry, c: usize, p: usize) -
     named_by_stamp(records, g, c, p, spare_at(chips, g, c, p))
 }
 
-// How many pages of chip c the records name.
-pub fn names_on(records: &[u8], g: Geometry, c: usize) -> usize
-    requires { ⌜ RecordsFit g (now records) × (c ≤ g .n) ⌝ }
-    ensures { λ r. ⌜ r ≡ namesBelow (layoutOf g) (recordAt (layoutOf g) (now (records .entry))) c (g .s) ⌝ }
+// How many page numbers the record of stripe j has on chip c.
+pub fn names_on(records: &[u8], g: Geometry, c: usize, j: usize) -> usize
+    requires { ⌜ RecordsFit g (now records) × (c ≤ g .n) × (j < g .s) ⌝ }
+    ensures { λ r. ⌜ (r ≡ namesOn (layoutOf g) (recordAt (layoutOf g) (now (records .entry))) j c) × (r ≤ 2) ⌝ }
 {
-    let s = g.s as usize;
-    let mut n = 0;
-    let mut j = 0;
-    while j < s {
-        let e = stripe_pages(records, g, c, j);
-        if e.main != NONE {
-            n += 1;
-        }
-        if e.side != NONE {
-            n += 1;
-        }
-        j += 1;
-    }
-    n
+    let e = stripe_pages(records, g, c, j);
+    let main: usize = if e.main == NONE { 0 } else { 1 };
+    let side: usize = if e.side == NONE { 0 } else { 1 };
+    main + side
 }

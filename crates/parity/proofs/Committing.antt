@@ -1,20 +1,24 @@
 -- A commit's record, and the list of its two stores.
-use Prim.Native.Nat.{ℕ, zero, suc, _-_, _<_}
+use Prim.Native.Nat.{ℕ, zero, suc, _<_}
 use native.Mathlib.Omega.{arith}
-use mathlib.Core.Path.{_≡_, fun-ext}
-use mathlib.Core.List.{[], _∷_, _++_}
+use mathlib.Core.Path.{_≡_, ap, fun-ext}
+use mathlib.Core.List.{List, [], _∷_, _++_}
 use lib.ListN.{getD, replicate}
 use Rattle.layout.specs.declared.Geometry.{Geometry}
-use Rattle.layout.specs.Layout.{Layout, layoutOf}
+use Rattle.layout.specs.Layout.{Layout, layoutOf, noChip}
 use Rattle.layout.specs.Rotation.{parityChip}
-use Rattle.layout.specs.Page.{Page, pageAt}
+use Rattle.layout.specs.Page.{pageAt}
 use Rattle.layout.specs.Record.{Record, recordAt}
-use Rattle.layout.specs.Images.{Images, slotAt}
+use Rattle.layout.specs.Images.{slotAt}
 use Rattle.steps.specs.Store.{program, stripe}
 use Rattle.steps.specs.Steps.{plain}
-use Rattle.rules.specs.Commit.{newParity, newParityReads, parityPage, committed, commitAt}
-use Rattle.codec.specs.Views.{sixOf}
+use Rattle.steps.specs.Allowance.{images}
+use Rattle.rules.specs.Fetch.{fetched, fetchRole, fetchIn, feedIn}
+use Rattle.rules.specs.Parity.{newParity, parityPage, committed, commitAt}
+use Rattle.codec.specs.declared.StripeRecord.{StripeRecord}
+use Rattle.codec.specs.Views.{sixOf, recordFrom}
 use Rattle.fetch.proofs.Others.{nones}
+use Rattle.parity.specs.Members.{parityIn}
 
 -- ---- the record
 
@@ -30,9 +34,18 @@ same-small (suc n) v b (suc m) h = same-small n v b m h
 
 -- ---- the two stores
 
--- the list, where e is the record of stripe j, n the one that is stored, and x the page
-pub commit-list : (l : Layout) (j q : ℕ) (s : Images) (e n : Record) (c reads : ℕ) (x : Page) → e ≡ recordAt l (s .records) j → n ≡ committed l q e
-    → c ≡ parityChip l j → reads ≡ newParityReads l e → x ≡ parityPage l j (newParity l (pageAt l (s .chips)) (slotAt l (s .slots)) j e)
-    → commitAt l j q s ≡ (record { reads = reads; store = program c q x } ∷ []) ++ (plain (stripe j n) ∷ [])
-unfolding commitAt
-commit-list l j q s e n c reads x is new chip read page = rw (new, chip, read, page, is)
+module _ (g : Geometry) (j q : ℕ) (x y z : List ℕ) (e : StripeRecord) (is : recordFrom (layoutOf g) e ≡ recordAt (layoutOf g) y j) where
+  abbrev l : Layout
+  l = layoutOf g
+
+  -- the new parity from the images
+  parity-from : parityIn g x z j e ≡ newParity l (feedIn l (images x y z) j) (slotAt l z (recordAt l y j .slot)) (recordAt l y j)
+  unfolding fetchIn
+  parity-from = ap (λ (r : Record). newParity l (λ role. fetched (fetchRole l (pageAt l x) (slotAt l z) j r noChip role)) (slotAt l z (r .slot)) r) is
+
+  -- the list, where e is the record of stripe j and n the one that is stored
+  pub commit-list : (n : Record) (c reads : ℕ) (xs : List ℕ) → n ≡ committed l q (recordFrom l e) → c ≡ parityChip l j
+      → xs ≡ parityIn g x z j e .bytes → reads ≡ parityIn g x z j e .reads
+      → commitAt l j q (images x y z) ≡ (record { reads = reads; store = program c q (parityPage l j xs) } ∷ []) ++ (plain (stripe j n) ∷ [])
+  unfolding commitAt
+  commit-list n c reads xs new chip bytes read = rw (new, chip, bytes, read, parity-from, is)

@@ -1,87 +1,142 @@
--- The new parity as the code makes it: the numbers that the bitmap chooses, and what stands in the work page with the old parity in it.
-use Prim.Native.Nat.{ℕ, _≤_}
+-- The members gathered one by one, and the new parity by its two ways.
+use Prim.Native.Nat.{ℕ, _+_, _*_, _≤_, _<_}
+use native.Mathlib.Nat.{zero-add}
+use native.Mathlib.Numerals.{add-one}
 use native.Mathlib.Omega.{arith}
-use mathlib.Core.Path.{_≡_, refl, fun-ext}
-use mathlib.Core.Logic.{_≢_}
-use mathlib.Core.Bool.{cond}
-use mathlib.Core.List.{List}
-use lib.ListN.{length, replicate}
-use borrow.Author.Tests.{eq-eqb, ne-eqb}
-use Rattle.bytes.specs.Xor.{_⊕_}
-use Rattle.bytes.proofs.Xors.{xor-nil-r, length-xors-left, xors-assoc}
+use mathlib.Core.Path.{_≡_, refl, _∙_}
+use mathlib.Core.Bool.{Bool, true, false, not, cond, Bool·beq}
+use mathlib.Core.List.{List, []}
+use lib.ListN.{length}
+use Rattle.ranges.specs.Look.{sumBelow}
+use Rattle.ranges.proofs.Looks.{by-test}
+use Rattle.ranges.proofs.Counts.{count-le}
+use Rattle.bytes.specs.Xor.{_⊕_, xorBelow}
+use Rattle.bytes.proofs.Xors.{xor-nil-r, xors-assoc}
 use Rattle.layout.specs.declared.Geometry.{Geometry}
-use Rattle.layout.specs.Layout.{layoutOf, none}
-use Rattle.layout.specs.Record.{Record, bit}
-use Rattle.layout.specs.Rotation.{parityChip}
+use Rattle.layout.specs.Layout.{Layout, layoutOf, noChip}
 use Rattle.layout.specs.Page.{pageAt}
+use Rattle.layout.specs.Record.{Record, bit}
+use Rattle.layout.specs.Images.{slotAt}
 use Rattle.layout.proofs.Limits.{Within}
 use Rattle.layout.proofs.Bits.{testBit}
-use Rattle.rules.specs.Gather.{bytesAt, readsAt}
-use Rattle.rules.specs.Commit.{currentOutside, oldInside}
-use Rattle.rules.proofs.Soundness.Statements.{RecordSound}
-use Rattle.rules.proofs.Data.Parity.{numbered-outside, numbered-old}
+use Rattle.rules.specs.declared.Role.the-variants.{Parity}
+use Rattle.rules.specs.Costs.{setBits, mostInPartial, costOf}
+use Rattle.rules.specs.Fetch.{fetchRole, membersFeed}
+use Rattle.rules.specs.Parity.{newParity}
+use Rattle.rules.proofs.Data.Feeds.{parity-fed}
+use Rattle.rules.proofs.Data.Costs.{commit-reads}
 use Rattle.codec.specs.declared.StripeRecord.{StripeRecord}
-use Rattle.codec.specs.Views.{sixOf, recordFrom}
-use Rattle.fetch.specs.Numbers.{NumbersFit}
-use Rattle.fetch.proofs.Others.{nones}
+use Rattle.codec.specs.Views.{recordFrom}
+use Rattle.fetch.specs.declared.Got.{Got}
+use Rattle.fetch.specs.Into.{RoleFits, Into}
+use Rattle.parity.specs.Members.{memberRole, memberIn, pageIn, membersIn, parityIn}
 
--- ---- the numbers that the bitmap chooses
+-- ---- members
 
-module _ (g : Geometry) (e : StripeRecord) (xs : List ℕ) where
-  -- the current ones outside
-  pub outside-chosen :
-      ((i : ℕ) → sixOf (layoutOf g) xs i ≡ cond (testBit (e .bitmap) i) (sixOf (layoutOf g) (replicate 6 65535) i) (sixOf (layoutOf g) (e .current) i))
-      → sixOf (layoutOf g) xs ≡ currentOutside (layoutOf g) (recordFrom (layoutOf g) e)
-  unfolding currentOutside recordFrom bit none
-  outside-chosen chosen = fun-ext λ i. rw (chosen i, nones g i)
+-- the code's test of a bit
+same-test : (b inside : Bool) → cond inside b (not b) ≡ Bool·beq b inside
+same-test true true = refl
+same-test true false = refl
+same-test false true = refl
+same-test false false = refl
 
-  -- the old ones inside
-  pub old-chosen :
-      ((i : ℕ) → sixOf (layoutOf g) xs i ≡ cond (testBit (e .bitmap) i) (sixOf (layoutOf g) (e .old) i) (sixOf (layoutOf g) (replicate 6 65535) i))
-      → sixOf (layoutOf g) xs ≡ oldInside (layoutOf g) (recordFrom (layoutOf g) e)
-  unfolding oldInside recordFrom bit none
-  old-chosen chosen = fun-ext λ i. rw (chosen i, nones g i)
+-- the member of a role
+pub member-fits : (g : Geometry) (inside : Bool) (m : ℕ) → m < g .n → RoleFits g (memberRole inside m)
+member-fits g true m h = h
+member-fits g false m h = h
 
--- the pages of a sound record's numbers may be read
-module _ (g : Geometry) (w : Within (layoutOf g)) (r : Record) (s : RecordSound (layoutOf g) r) (xs : List ℕ) where
-  pub outside-fit : sixOf (layoutOf g) xs ≡ currentOutside (layoutOf g) r → NumbersFit g xs
-  outside-fit e = record { fits = λ i h. rw e (numbered-outside (layoutOf g) w r s i h) }
+module _ (g : Geometry) (chips slots : List ℕ) (j : ℕ) (e : StripeRecord) (inside : Bool) (work₀ : List ℕ) where
+  -- of the first m members those that belong are in
+  pub record Members (m : ℕ) (work : List ℕ) (reads : ℕ) : Type 0 where
+    pub few : g .n ≤ 6
+    pub within : m ≤ g .n
+    pub long : length work ≡ g .w
+    pub bytes : work ≡ work₀ ⊕ xorBelow m (λ i. cond (memberIn g chips slots j e inside i) (pageIn g chips slots j e (memberRole inside i) .bytes) [])
+    pub counted : reads ≡ sumBelow m (λ i. cond (memberIn g chips slots j e inside i) (pageIn g chips slots j e (memberRole inside i) .reads) 0)
+    pub low : reads ≤ 7 * m
 
-  pub old-fit : sixOf (layoutOf g) xs ≡ oldInside (layoutOf g) r → NumbersFit g xs
-  old-fit e = record { fits = λ i h. rw e (numbered-old (layoutOf g) w r s i h) }
+  pub members-none : g .n ≤ 6 → length work₀ ≡ g .w → Members 0 work₀ 0
+  unfolding xorBelow sumBelow
+  members-none few w = record { few = few; within = omega arith; long = w; bytes = rw (xor-nil-r work₀); counted = refl; low = omega arith }
 
--- ---- the old parity
+module _ {g : Geometry} {chips slots : List ℕ} {j : ℕ} {e : StripeRecord} {inside : Bool} {work₀ : List ℕ} {m : ℕ} {work : List ℕ} {reads : ℕ}
+    (s : Members g chips slots j e inside work₀ m work reads) (b : Bool) (is : b ≡ testBit (e .bitmap) m) (h : m < g .n) where
+  test-is : memberIn g chips slots j e inside m ≡ Bool·beq b inside
+  unfolding recordFrom bit
+  test-is = rw is (same-test (testBit (e .bitmap) m) inside)
 
--- the parity page p of stripe j, if any, is in the bytes xs, and so many pages were read for it
-pub record ParityIn (g : Geometry) (chips : List ℕ) (j p : ℕ) (xs work : List ℕ) (reads : ℕ) : Type 0 where
-  pub long : length work ≡ length xs
-  pub bytes : work ≡ xs ⊕ bytesAt (layoutOf g) (pageAt (layoutOf g) chips) (parityChip (layoutOf g) j) p
-  pub counted : reads ≡ readsAt (layoutOf g) p
-  pub few : reads ≤ 1
+  -- the next one belongs
+  pub members-more : Bool·beq b inside ≡ true → {after : List ℕ} {got : Got} → length after ≡ length work
+      → Into (fetchRole (layoutOf g) (pageAt (layoutOf g) chips) (slotAt (layoutOf g) slots) j (recordFrom (layoutOf g) e) noChip (memberRole inside m)) work after got
+      → Members g chips slots j e inside work₀ (m + 1) after (reads + got .reads)
+  unfolding xorBelow sumBelow
+  members-more t same into =
+      record {
+        few = s .few;
+        within = omega arith;
+        long = same ∙ s .long;
+        bytes = rw (add-one, test-is ∙ t, into .bytes, s .bytes) (xors-assoc work₀ _ _);
+        counted = rw (add-one, test-is ∙ t, into .reads, s .counted);
+        low = omega (arith, s .low, into .few);
+      }
 
-module _ (g : Geometry) (chips : List ℕ) (j p : ℕ) (xs : List ℕ) where
-  -- there is one
-  pub parity-in : p ≢ 65535 → (page : List ℕ) → page ≡ pageAt (layoutOf g) chips (parityChip (layoutOf g) j) p .bytes → length page ≡ length xs
-      → ParityIn g chips j p xs (xs ⊕ page) 1
-  unfolding bytesAt readsAt none
-  parity-in d page e w = record {
-    long = length-xors-left xs page (omega arith);
-    bytes = rw (ne-eqb p 65535 d, e);
-    counted = rw (ne-eqb p 65535 d);
-    few = omega arith;
-  }
+  -- or not
+  pub members-skip : Bool·beq b inside ≡ false → Members g chips slots j e inside work₀ (m + 1) work reads
+  unfolding xorBelow sumBelow
+  members-skip t =
+      record {
+        few = s .few;
+        within = omega arith;
+        long = s .long;
+        bytes = rw (add-one, test-is ∙ t, xor-nil-r) (s .bytes);
+        counted = rw (add-one, test-is ∙ t) (omega (arith, s .counted));
+        low = omega (arith, s .low);
+      }
 
-  -- there is none
-  pub no-parity : p ≡ 65535 → ParityIn g chips j p xs xs 0
-  unfolding bytesAt readsAt none
-  no-parity d = record {
-    long = refl;
-    bytes = rw (eq-eqb p 65535 d, xor-nil-r xs);
-    counted = rw (eq-eqb p 65535 d);
-    few = omega arith;
-  }
+-- all of them
+pub members-all : {g : Geometry} {chips slots : List ℕ} {j : ℕ} {e : StripeRecord} {inside : Bool} {work₀ : List ℕ} {m : ℕ} {work : List ℕ} {reads : ℕ}
+    → Members g chips slots j e inside work₀ m work reads → g .n ≤ m
+    → (work ≡ work₀ ⊕ membersIn g chips slots j e inside .bytes) × (reads ≡ membersIn g chips slots j e inside .reads) × (reads ≤ 42)
+unfolding membersFeed
+members-all {g} {m} s h =
+    let all : m ≡ g .n = omega (arith, s .within) in
+    (rw all at (s .bytes), rw all at (s .counted), omega (arith, s .low, s .few, s .within))
 
-  -- more bytes come into it
-  pub parity-more : {zs work : List ℕ} {reads : ℕ} → ParityIn g chips j p xs work reads → xs ≡ zs → (ys : List ℕ)
-      → work ⊕ ys ≡ zs ⊕ (bytesAt (layoutOf g) (pageAt (layoutOf g) chips) (parityChip (layoutOf g) j) p ⊕ ys)
-  parity-more {zs} h e ys = rw (h .bytes, e) (xors-assoc zs (bytesAt (layoutOf g) (pageAt (layoutOf g) chips) (parityChip (layoutOf g) j) p) ys)
+-- ---- the new parity
+
+module _ (g : Geometry) (w : Within (layoutOf g)) (chips slots : List ℕ) (j : ℕ) (e : StripeRecord) where
+  abbrev l : Layout
+  l = layoutOf g
+
+  abbrev r : Record
+  r = recordFrom l e
+
+  cost-few : costOf l (setBits l r) ≤ 8
+  unfolding costOf setBits
+  cost-few =
+      let few = count-le (g .n) (bit r) in
+      by-test (mostInPartial l (setBits l r)) (λ t. rw t (omega (arith, w .members-high))) (λ t. rw t (omega (arith, w .members-high)))
+
+  parity-few : parityIn g chips slots j e .reads ≤ 8
+  parity-few = rw (parity-fed l w (pageAt l chips) (slotAt l slots) j r) (omega (arith, commit-reads l r, cost-few))
+
+  abbrev IsParity : List ℕ → ℕ → Type 0
+  IsParity xs reads = (xs ≡ parityIn g chips slots j e .bytes) × (reads ≡ parityIn g chips slots j e .reads) × (reads ≤ 8)
+
+  -- it is of these bytes and reads
+  is-parity : {xs : List ℕ} {reads : ℕ} → xs ≡ parityIn g chips slots j e .bytes → reads ≡ parityIn g chips slots j e .reads → IsParity xs reads
+  is-parity b c = (b, c, rw c parity-few)
+
+  module _ {before : List ℕ} (slot : before ≡ slotAt l slots (r .slot)) where
+    -- "partial ⊕ pages not in the bitmap"
+    pub parity-outside : mostInPartial l (setBits l r) ≡ true → {after : List ℕ} {reads : ℕ}
+        → after ≡ before ⊕ membersIn g chips slots j e false .bytes → reads ≡ membersIn g chips slots j e false .reads → IsParity after reads
+    unfolding newParity
+    parity-outside t bytes reads = is-parity (rw (t, bytes, slot)) (rw (t, reads, zero-add))
+
+    -- "partial ⊕ old parity ⊕ old pages of the bitmap"
+    pub parity-inside : mostInPartial l (setBits l r) ≡ false → {work after : List ℕ} {got : Got} {reads : ℕ}
+        → Into (fetchRole l (pageAt l chips) (slotAt l slots) j r noChip Parity) before work got
+        → after ≡ work ⊕ membersIn g chips slots j e true .bytes → reads ≡ membersIn g chips slots j e true .reads → IsParity after (got .reads + reads)
+    unfolding newParity
+    parity-inside t into bytes reads = is-parity (rw (t, bytes, into .bytes, slot) (xors-assoc _ _ _)) (rw (t, into .reads, reads, zero-add))

@@ -1,12 +1,11 @@
 //! What a commit stores: the new parity page at its place, and the record.
 
 use bytes::copy;
-use bytes::xor_into;
 use codec::NONE;
 use codec::PARITY;
 use codec::Spare;
 use codec::StripeRecord;
-use codec::page_data;
+use codec::bit_of;
 use codec::parity_chip;
 use codec::record_at;
 use codec::slot_data;
@@ -14,23 +13,56 @@ use costs::most_in_partial;
 use costs::set_bits;
 use device::program;
 use device::store_record;
-use fetch::chosen;
-use fetch::gather;
+use fetch::fetch;
 use layout::Geometry;
+use layout::NO_CHIP;
+use rules::Role;
 use steps::Progress;
 ghost use mathlib.Core.Path.{_≡_};
 ghost use mathlib.Core.Bool.{true};
 ghost use Prim.Native.Nat.{_≤_, _<_};
 ghost use lib.ListN.{length};
+ghost use Rattle.bytes.specs.Xor.{_⊕_};
 ghost use Rattle.layout.specs.Layout.{layoutOf, pages};
-ghost use Rattle.layout.specs.Page.{pageAt};
 ghost use Rattle.layout.specs.Record.{recordAt, hasSlot};
-ghost use Rattle.layout.specs.Images.{slotAt};
 ghost use Rattle.rules.specs.Sound.{recordSound};
-ghost use Rattle.rules.specs.Commit.{newParity, newParityReads, committed as committedRecord, commitAt};
+ghost use Rattle.rules.specs.Parity.{committed as committedRecord, commitAt};
 ghost use Rattle.steps.specs.Allowance.{Sane, Ran, images};
 ghost use Rattle.codec.specs.Fit.{ChipsFit, RecordsFit, SlotsFit};
 ghost use Rattle.codec.specs.Views.{recordFrom, SmallRecord};
+ghost use Rattle.parity.specs.Members.{membersIn, parityIn};
+
+// XORs into work the old page of each member in the bitmap, or the current page of each other one, and answers how many were read.
+fn gather_members(
+    work: &mut [u8],
+    chips: &[u8],
+    slots: &[u8],
+    g: Geometry,
+    j: usize,
+    e: StripeRecord,
+    inside: bool,
+) -> u64
+    requires { ⌜ ChipsFit g (now chips) × SlotsFit g (now slots) × (length (now work) ≡ g .w) × (recordSound (layoutOf g) (recordFrom (layoutOf g) e) ≡ true) ⌝ }
+    ensures { λ r. ⌜ (now (work .exit) ≡ now (work .entry) ⊕ membersIn g (now (chips .entry)) (now (slots .entry)) j e inside .bytes)
+        × (r ≡ membersIn g (now (chips .entry)) (now (slots .entry)) j e inside .reads) × (r ≤ 42) ⌝ }
+{
+    let n = g.n as usize;
+    let mut reads = 0;
+    let mut m = 0;
+    while m < n {
+        if bit_of(e.bitmap, m) == inside {
+            let role = if inside {
+                Role::Old(m)
+            } else {
+                Role::Current(m)
+            };
+            let got = fetch(work, chips, slots, g, NO_CHIP, j, e, role);
+            reads += got.reads;
+        }
+        m += 1;
+    }
+    reads
+}
 
 // Work becomes the new parity of stripe j, and the answer is how many pages were read for it.
 fn new_parity(
@@ -43,21 +75,15 @@ fn new_parity(
 ) -> u64
     requires { ⌜ ChipsFit g (now chips) × SlotsFit g (now slots) × (length (now work) ≡ g .w)
         × (recordSound (layoutOf g) (recordFrom (layoutOf g) e) ≡ true) × (hasSlot (recordFrom (layoutOf g) e) ≡ true) ⌝ }
-    ensures { λ r. ⌜ (now (work .exit) ≡ newParity (layoutOf g) (pageAt (layoutOf g) (now (chips .entry))) (slotAt (layoutOf g) (now (slots .entry))) j (recordFrom (layoutOf g) e))
-        × (r ≡ newParityReads (layoutOf g) (recordFrom (layoutOf g) e)) × (r ≤ 8) ⌝ }
+    ensures { λ r. ⌜ (now (work .exit) ≡ parityIn g (now (chips .entry)) (now (slots .entry)) j e .bytes)
+        × (r ≡ parityIn g (now (chips .entry)) (now (slots .entry)) j e .reads) × (r ≤ 8) ⌝ }
 {
-    let current = e.current;
-    let old = e.old;
     copy(work, slot_data(slots, g, e.slot));
     if most_in_partial(g, set_bits(g, e.bitmap)) {
-        return gather(work, chips, g, j, chosen(e.bitmap, [NONE; 6], current));
+        return gather_members(work, chips, slots, g, j, e, false);
     }
-    let mut reads = 0;
-    if e.parity != NONE {
-        xor_into(work, page_data(chips, g, parity_chip(g, j), e.parity));
-        reads = 1;
-    }
-    reads + gather(work, chips, g, j, chosen(e.bitmap, old, [NONE; 6]))
+    let got = fetch(work, chips, slots, g, NO_CHIP, j, e, Role::Parity);
+    got.reads + gather_members(work, chips, slots, g, j, e, true)
 }
 
 // The record with its new parity page q: no olds, no bitmap, no slot.

@@ -7,7 +7,7 @@ use Rattle.ranges.proofs.Looks.{first-at}
 use Rattle.layout.specs.declared.Geometry.{Geometry}
 use Rattle.layout.specs.Layout.{layoutOf}
 use Rattle.layout.specs.Record.{Record}
-use Rattle.rules.specs.Write.{freeSlot, lowestFreeSlot}
+use Rattle.rules.specs.Partial.{freeSlot, lowestFreeSlot}
 
 -- it is one of the M + 1
 pub free-fits : (g : Geometry) (r : ℕ → Record) (i : ℕ) → lowestFreeSlot (layoutOf g) r ≡ At i → i ≤ g .m

@@ -12,7 +12,7 @@ use Rattle.layout.specs.declared.Geometry.{Geometry}
 use Rattle.layout.specs.Layout.{layoutOf}
 use Rattle.layout.specs.Record.{bit}
 use Rattle.layout.proofs.Bits.{testBit, set-bound}
-use Rattle.rules.specs.Write.{written}
+use Rattle.rules.specs.Partial.{written}
 use Rattle.codec.specs.declared.StripeRecord.{StripeRecord}
 use Rattle.codec.specs.Views.{recordFrom, SmallRecord}
 use Rattle.codec.proofs.Encodings.{six-in, six-set, set-small}

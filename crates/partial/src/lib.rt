@@ -8,28 +8,29 @@ use codec::Spare;
 use codec::StripeRecord;
 use codec::bit_of;
 use codec::member_chip;
-use codec::page_data;
 use codec::record_at;
 use codec::slot_data;
 use device::program;
 use device::store_record;
 use device::store_slot;
+use fetch::fetch;
 use layout::Geometry;
+use layout::NO_CHIP;
 use ranges::Found;
+use rules::Role;
 use steps::Progress;
 ghost use mathlib.Core.Path.{_≡_};
 ghost use mathlib.Core.Bool.{true};
 ghost use Prim.Native.Nat.{_≤_, _<_};
 ghost use lib.ListN.{length};
 ghost use Rattle.layout.specs.Layout.{layoutOf, pages};
-ghost use Rattle.layout.specs.Page.{pageAt};
 ghost use Rattle.layout.specs.Record.{recordAt};
-ghost use Rattle.layout.specs.Images.{slotAt};
 ghost use Rattle.rules.specs.Sound.{recordSound};
-ghost use Rattle.rules.specs.Write.{lowestFreeSlot, newPartial, newPartialReads, written as writtenRecord, slotSteps, writeAt};
+ghost use Rattle.rules.specs.Partial.{lowestFreeSlot, written as writtenRecord, slotSteps, writeAt};
 ghost use Rattle.steps.specs.Allowance.{Sane, Ran, images};
 ghost use Rattle.codec.specs.Fit.{ChipsFit, RecordsFit, SlotsFit};
 ghost use Rattle.codec.specs.Views.{recordFrom, SmallRecord};
+ghost use Rattle.partial.specs.Feed.{partialIn};
 
 // Work becomes the new partial parity of stripe j with the data of member m, and the answer is how many pages were read for it.
 fn new_partial(
@@ -44,8 +45,8 @@ fn new_partial(
 ) -> u64
     requires { ⌜ ChipsFit g (now chips) × SlotsFit g (now slots) × (length (now work) ≡ g .w) × (length (now bytes) ≡ g .w) × (m < g .n)
         × (recordSound (layoutOf g) (recordFrom (layoutOf g) e) ≡ true) ⌝ }
-    ensures { λ r. ⌜ (now (work .exit) ≡ newPartial (layoutOf g) (pageAt (layoutOf g) (now (chips .entry))) (slotAt (layoutOf g) (now (slots .entry))) j m (now (bytes .entry)) (recordFrom (layoutOf g) e))
-        × (r ≡ newPartialReads (layoutOf g) m (recordFrom (layoutOf g) e)) × (r ≤ 8) ⌝ }
+    ensures { λ r. ⌜ (now (work .exit) ≡ partialIn g (now (chips .entry)) (now (slots .entry)) j m (now (bytes .entry)) e .bytes)
+        × (r ≡ partialIn g (now (chips .entry)) (now (slots .entry)) j m (now (bytes .entry)) e .reads) × (r ≤ 8) ⌝ }
 {
     if e.slot == 255 {
         copy(work, bytes);
@@ -54,9 +55,8 @@ fn new_partial(
     copy(work, slot_data(slots, g, e.slot));
     let mut reads = 0;
     if bit_of(e.bitmap, m) {
-        let current = e.current;
-        xor_into(work, page_data(chips, g, member_chip(g, j, m), current[m]));
-        reads = 1;
+        let got = fetch(work, chips, slots, g, NO_CHIP, j, e, Role::Current(m));
+        reads = got.reads;
     }
     xor_into(work, bytes);
     reads

@@ -1,47 +1,49 @@
--- A loop that keeps the least so far: every measure is below a bound, and the bound stands for nothing found.
+-- The least so far, with one number more.
 use Prim.Native.Nat.{ℕ, _+_, _≤_, _<_}
-use native.Mathlib.Nat.{le-refl}
 use native.Mathlib.Numerals.{add-one}
 use native.Mathlib.Omega.{arith}
-use mathlib.Core.Path.{_≡_, refl}
-use mathlib.Core.Bool.{Bool, true}
+use mathlib.Core.Path.{_≡_, refl, _∙_}
+use mathlib.Core.Bool.{Bool, true, false}
 use Rattle.ranges.specs.declared.Found.the-variants.{At, Nothing}
-use Rattle.ranges.specs.Look.{leastBelow}
-use Rattle.ranges.proofs.Looks.{by-test, by-order, least-start, least-skips, least-here, least-better, least-keeps}
+use Rattle.ranges.specs.declared.Least.{Least}
+use Rattle.ranges.specs.Look.{whenFound, leastBelow, leastSoFar}
+use Rattle.ranges.proofs.Looks.{least-start, least-skips, least-here, least-better, least-keeps}
 
--- best is the answer below n, and least its measure; or least is the bound, and nothing below n passes
-pub record Best (f : ℕ → Bool) (m : ℕ → ℕ) (bound n best least : ℕ) : Type 0 where
-  pub high : least ≤ bound
-  pub some : least < bound → (leastBelow n f m ≡ At best) × (m best ≡ least)
-  pub nothing : least ≡ bound → leastBelow n f m ≡ Nothing
+-- none before the first
+pub least-none : (f : ℕ → Bool) (m : ℕ → ℕ) → record { at = Nothing; measure = 0 } ≡ leastSoFar f m 0
+unfolding leastSoFar whenFound
+least-none f m = rw (least-start f m)
 
-pub best-start : (f : ℕ → Bool) (m : ℕ → ℕ) (bound best : ℕ) → Best f m bound 0 best bound
-best-start f m bound best = record { high = le-refl bound; some = λ h. absurd (omega arith); nothing = λ _. least-start f m }
+module _ (f : ℕ → Bool) (m : ℕ → ℕ) (n : ℕ) {l : Least} (h : l ≡ leastSoFar f m n) where
+  -- n does not pass
+  pub least-passed : f n ≡ false → l ≡ leastSoFar f m (n + 1)
+  unfolding leastSoFar
+  least-passed t = rw (h, add-one, least-skips n f m t)
 
-module _ {f : ℕ → Bool} {m : ℕ → ℕ} {bound n best least : ℕ} (h : Best f m bound n best least) where
-  -- n is better
-  pub best-takes : f n ≡ true → m n < least → Best f m bound (n + 1) n (m n)
-  best-takes t less = rw add-one (record {
-    high = omega (arith, h .high);
-    some = λ _. (
-      by-order least bound
-          (λ low. let (e, is) = h .some low in least-better n f m best t e (omega (arith, is)))
-          (λ top. least-here n f m t (h .nothing (omega (arith, h .high)))),
-      refl,
-    );
-    nothing = λ e. absurd (omega (arith, h .high));
-  })
+  -- what is found, and its measure
+  found-is : leastBelow n f m ≡ l .at
+  unfolding leastSoFar
+  found-is = rw h
 
-  -- n is not: it does not pass, or is below the bound and no better
-  pub best-stays : (f n ≡ true → (least ≤ m n) × (m n < bound)) → Best f m bound (n + 1) best least
-  best-stays no-better = by-test (f n)
-      (λ t. let (more, low) = no-better t in rw add-one (record {
-        high = h .high;
-        some = λ less. let (e, is) = h .some less in (least-keeps n f m best t e (omega (arith, is)), is);
-        nothing = λ e. absurd (omega arith);
-      }))
-      (λ t. rw add-one (record {
-        high = h .high;
-        some = λ less. let (e, is) = h .some less in (rw (least-skips n f m t) e, is);
-        nothing = λ e. rw (least-skips n f m t) (h .nothing e);
-      }))
+  -- n passes, with measure k
+  module _ {k : ℕ} (t : f n ≡ true) (e : k ≡ m n) where
+    -- nothing was found before
+    pub least-first : l .at ≡ Nothing → record { at = At n; measure = k } ≡ leastSoFar f m (n + 1)
+    unfolding leastSoFar whenFound
+    least-first z = rw (add-one, least-here n f m t (found-is ∙ z), e)
+
+    -- or i, whose measure is more
+    pub least-less : (i : ℕ) → l .at ≡ At i → k < l .measure → record { at = At n; measure = k } ≡ leastSoFar f m (n + 1)
+    unfolding leastSoFar whenFound
+    least-less i z less =
+        let found = found-is ∙ z in
+        let measured : l .measure ≡ m i = rw (h, found) in
+        rw (add-one, least-better n f m i t found (omega arith), e)
+
+    -- or not more
+    pub least-more : (i : ℕ) → l .at ≡ At i → l .measure ≤ k → l ≡ leastSoFar f m (n + 1)
+    unfolding leastSoFar whenFound
+    least-more i z more =
+        let found = found-is ∙ z in
+        let measured : l .measure ≡ m i = rw (h, found) in
+        rw (add-one, least-keeps n f m i t found (omega arith)) (h ∙ rw found)

@@ -91,6 +91,11 @@ pub counts-sum : (n : ℕ) (f g : ℕ → Bool) → countBelow n f + countBelow 
 counts-sum zero f g = omega (arith, count-start f, count-start g, sum-start (λ i. ones (f i) + ones (g i)))
 counts-sum (suc n) f g = omega (arith, count-more n f, count-more n g, sum-more n (λ i. ones (f i) + ones (g i)), counts-sum n f g)
 
+-- a count is the sum of what its test adds
+pub count-sum : (n : ℕ) (f : ℕ → Bool) → countBelow n f ≡ sumBelow n (λ i. ones (f i))
+count-sum zero f = omega (arith, count-start f, sum-start (λ i. ones (f i)))
+count-sum (suc n) f = omega (arith, count-more n f, sum-more n (λ i. ones (f i)), count-sum n f)
+
 -- the numbers f are the numbers g with one more between them, at k
 pub sum-gap : (n k : ℕ) (f g : ℕ → ℕ) → k ≤ n → ((i : ℕ) → i < n → f (cond (ltb i k) i (i + 1)) ≡ g i)
     → sumBelow (suc n) f ≡ sumBelow n g + f k

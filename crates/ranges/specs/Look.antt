@@ -6,6 +6,7 @@ use mathlib.Core.Bool.{Bool, true, false, cond, _&&_, _||_}
 use lib.Dec.{ltb}
 use Rattle.ranges.specs.declared.Found.{Found}
 use Rattle.ranges.specs.declared.Found.the-variants.{At, Nothing}
+use Rattle.ranges.specs.declared.Least.{Least}
 
 -- every number below n passes f
 unfoldable pub allBelow : ℕ → (ℕ → Bool) → Bool
@@ -46,6 +47,10 @@ better measure Nothing n = At n
 unfoldable pub leastBelow : ℕ → (ℕ → Bool) → (ℕ → ℕ) → Found
 leastBelow zero f measure = Nothing
 leastBelow (suc n) f measure = cond (f n) (better measure (leastBelow n f measure) n) (leastBelow n f measure)
+
+-- the same with its measure, 0 where there is none
+unfoldable pub leastSoFar : (ℕ → Bool) → (ℕ → ℕ) → ℕ → Least
+leastSoFar f measure n = record { at = leastBelow n f measure; measure = whenFound (leastBelow n f measure) measure 0 }
 
 -- the sum of f 0, f 1, .. below n
 unfoldable pub sumBelow : ℕ → (ℕ → ℕ) → ℕ

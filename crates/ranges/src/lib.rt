@@ -1,7 +1,52 @@
-//! Byte lists as arrays of units, and the ways to look through a range of numbers.
+//! What a search through a range of numbers answers, and the least by a measure.
+
+ghost use mathlib.Core.Path.{_≡_};
+ghost use mathlib.Core.Bool.{Bool, true};
+ghost use Prim.Native.Nat.{ℕ, _+_};
+ghost use Rattle.ranges.specs.Look.{leastSoFar};
 
 // What a search answers.
 pub enum Found {
     At(usize),
     Nothing,
+}
+
+// The number of least measure among those passed that pass a test, and its measure; 0 where there is none.
+pub struct Least {
+    pub at: Found,
+    pub measure: usize,
+}
+
+// None yet.
+pub fn no_least() -> Least
+    ensures { λ r. ⌜ ((f : ℕ → Bool) (m : ℕ → ℕ) → r ≡ leastSoFar f m 0) ⌝ }
+{
+    Least {
+        at: Found::Nothing,
+        measure: 0,
+    }
+}
+
+// The least with number n, of this measure where it passes; on ties the lower number stands.
+pub fn with_next(least: Least, n: usize, passes: bool, measure: usize) -> Least
+    ensures { λ r. ⌜ ((f : ℕ → Bool) (m : ℕ → ℕ) → least ≡ leastSoFar f m n → passes ≡ f n → (f n ≡ true → measure ≡ m n) → r ≡ leastSoFar f m (n + 1)) ⌝ }
+{
+    if !passes {
+        return least;
+    }
+    let here = Least {
+        at: Found::At(n),
+        measure,
+    };
+    let at = least.at;
+    match at {
+        Found::Nothing => here,
+        Found::At(_) => {
+            if measure < least.measure {
+                here
+            } else {
+                least
+            }
+        }
+    }
 }

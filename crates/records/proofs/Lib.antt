@@ -1,6 +1,4 @@
-pub mod Glances
 pub mod Plains
 pub mod Sizes
 pub mod Tables
-pub mod Tops
 pub mod Totals

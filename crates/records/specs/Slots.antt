@@ -1,18 +1,15 @@
 -- What the records tell of the slots, and what the pass over them knows on the way.
-use Prim.Native.Nat.{ℕ, _+_, _≤_, _<_}
+use Prim.Native.Nat.{ℕ, _+_}
 use mathlib.Core.Path.{_≡_}
-use mathlib.Core.Bool.{Bool, true, false, not, cond}
+use mathlib.Core.Bool.{Bool, true, false, not}
 use mathlib.Core.List.{List}
 use lib.ListN.{getD}
-use lib.Dec.{ltb}
-use Rattle.ranges.specs.declared.Found.{Found}
-use Rattle.ranges.specs.declared.Found.the-variants.{At, Nothing}
-use Rattle.ranges.specs.Look.{allBelow, someBelow, countBelow, leastBelow}
+use Rattle.ranges.specs.Look.{allBelow, someBelow, countBelow, leastSoFar}
 use Rattle.layout.specs.Layout.{Layout}
 use Rattle.layout.specs.Record.{Record, slotted, slotOf}
 use Rattle.rules.specs.Sound.{ownSlot, soundAt}
-use Rattle.rules.specs.Commit.{recordCost, cheapest}
-use Rattle.rules.specs.Write.{lowestFreeSlot}
+use Rattle.rules.specs.Costs.{recordCost, cheapest}
+use Rattle.rules.specs.Partial.{lowestFreeSlot}
 use Rattle.codec.specs.declared.StripeRecord.{StripeRecord}
 use Rattle.codec.specs.Views.{recordFrom}
 use Rattle.records.specs.declared.SlotScan.{SlotScan}
@@ -21,10 +18,6 @@ use Rattle.records.specs.declared.Tally.{Tally}
 -- how many records have a slot, the cheapest stripe to commit, and the lowest free slot
 abbrev pub slotScan : Layout → (ℕ → Record) → SlotScan
 slotScan l r = record { slotted = countBelow (l .S) (slotted r); cheapest = cheapest l r; free = lowestFreeSlot l r }
-
--- no cost is as high as 8, which stands for none
-abbrev pub cheapestIn : Tally → Found
-cheapestIn t = cond (ltb (t .least) 8) (At (t .stripe)) Nothing
 
 -- slot i is not marked
 abbrev pub unmarked : List Bool → ℕ → Bool
@@ -35,9 +28,7 @@ pub record Tallied (l : Layout) (r : ℕ → Record) (j : ℕ) (t : Tally) : Typ
   pub sounds : t .sound ≡ allBelow j (soundAt l r)
   pub owns : t .own ≡ allBelow j (ownSlot r)
   pub counts : t .slotted ≡ countBelow j (slotted r)
-  pub high : t .least ≤ 8
-  pub some : t .least < 8 → (leastBelow j (slotted r) (recordCost l r) ≡ At (t .stripe)) × (recordCost l r (t .stripe) ≡ t .least)
-  pub nothing : t .least ≡ 8 → leastBelow j (slotted r) (recordCost l r) ≡ Nothing
+  pub cheap : t .cheapest ≡ leastSoFar (slotted r) (recordCost l r) j
 
 -- n is t with record j, which is e, whatever the records before it are; taken, where one of them has its slot
 pub record Adds (l : Layout) (j : ℕ) (e : StripeRecord) (taken : Bool) (t n : Tally) : Type 0 where

@@ -2,6 +2,7 @@
 pub mod Carries
 pub mod CommitRecord
 pub mod Contents
+pub mod Feeds
 pub mod Costs
 pub mod Entries
 pub mod NewRecord

@@ -1,4 +1,5 @@
 -- Where there is room.
+pub mod CleanPages
 pub mod FreeSlot
 pub mod Places
 pub mod Room

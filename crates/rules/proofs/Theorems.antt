@@ -26,14 +26,16 @@ use Rattle.rules.specs.declared.Check.{Check}
 use Rattle.rules.specs.declared.Check.the-variants.{Passed, Failed}
 use Rattle.rules.specs.declared.Reading.the-variants.{Done as ReadDone}
 use Rattle.rules.specs.Blocks.{lowestCleanBlock}
-use Rattle.rules.specs.Sound.{recordsSound, chipSound}
+use Rattle.rules.specs.Sound.{recordsSound, chipSound, isLost}
 use Rattle.rules.specs.Refusals.{checked, recordsCheck, sparesCheck, imagesRows, writeRows, commitRows, collectRows}
 use Rattle.rules.specs.Format.{formatSteps}
 use Rattle.rules.specs.Open.{openSteps}
 use Rattle.rules.specs.Collect.{victimOf, collectSteps}
 use Rattle.rules.specs.Place.{placeOf}
-use Rattle.rules.specs.Commit.{cheapest, commitSteps}
-use Rattle.rules.specs.Write.{commitOwed, lowestFreeSlot, writeSteps}
+use Rattle.rules.specs.Costs.{cheapest}
+use Rattle.rules.specs.Commit.{commitSteps}
+use Rattle.rules.specs.Partial.{lowestFreeSlot}
+use Rattle.rules.specs.Write.{commitOwed, writeSteps}
 use Rattle.rules.specs.Read.{fetch}
 use Rattle.rules.specs.Calls.{ReadOutcome, Verdict, done, cut, refused, verdict, run, outcome, formatCall, readCall, writeCall}
 use Rattle.rules.specs.Demand.{Demand3}
@@ -62,12 +64,12 @@ module _ (l : Layout) where
     pub records : (r : ℕ → Record) (co : Collection) → (recordsSound l r co ≡ true) ↔ RecordsSound l r co
     pub chip : (r : ℕ → Record) (x : ℕ → Page) (c : ℕ) (co : Collection) → (chipSound l r x c co ≡ true) ↔ ChipSound l r x c co
     pub images : (s : Images) (lost : ℕ)
-        → ((lengths l s ≡ true) × (recordsCheck l s ≡ true) × (sparesCheck l s lost ≡ true)) ↔ SoundBut l lost s
+        → ((lengths l s ≡ true) × (recordsCheck l s ≡ true) × (sparesCheck l s lost ≡ true)) ↔ SoundBut l (isLost lost) s
 
   -- Soundness is kept: by every prefix of the list of every call but format that is not refused, and by a format's whole list.
   pub record SoundnessKept : Type 0 where
     pub format : (s : Images) → limits l ≡ true → lengths l s ≡ true → Sound l (applyAll l (formatSteps l) s)
-    pub open-call : (s : Images) (lost : ℕ) → checked (imagesRows l s lost) ≡ Passed → Every l (SoundBut l lost) (openSteps l lost s) s
+    pub open-call : (s : Images) (lost : ℕ) → checked (imagesRows l s lost) ≡ Passed → Every l (SoundBut l (isLost lost)) (openSteps l lost s) s
     pub write : (s : Images) (lost page : ℕ) (xs : List ℕ) → checked (writeRows l s lost page xs) ≡ Passed → Every l (Sound l) (writeSteps l page xs s) s
     pub commit : (s : Images) (lost j : ℕ) → checked (commitRows l s lost j) ≡ Passed → Every l (Sound l) (commitSteps l j s) s
     pub collect : (s : Images) (lost c : ℕ) → checked (collectRows l s lost c) ≡ Passed → Every l (Sound l) (collectSteps l c s) s
@@ -109,8 +111,8 @@ module _ (l : Layout) where
     records = λ r co. (records-sound l r co, records-pass l r co);
     chip = λ r x c co. (chip-sound l r x c co, chip-pass l r x c co);
     images = λ s lost. (
-      λ h. images-sound l s lost (h .0) (h .1) (h .2),
-      λ f. (lengths-pass l s lost f, records-check-pass l s lost f, spares-check-pass l s lost f),
+      λ h. images-sound l s (isLost lost) (h .0) (h .1) (h .2),
+      λ f. (lengths-pass l s (isLost lost) f, records-check-pass l s (isLost lost) f, spares-check-pass l s (isLost lost) f),
     );
   }
 
@@ -133,14 +135,14 @@ module _ (l : Layout) (some : 1 ≤ l .D) (narrow : l .D ≤ 4) where
   usable : Within l → Usable l
   usable w = record { within = w; some = some; narrow = narrow }
 
-  open-kept : (s : Images) (lost : ℕ) → checked (imagesRows l s lost) ≡ Passed → Every l (SoundBut l lost) (openSteps l lost s) s
+  open-kept : (s : Images) (lost : ℕ) → checked (imagesRows l s lost) ≡ Passed → Every l (SoundBut l (isLost lost)) (openSteps l lost s) s
   open-kept s lost passed k =
       let o = images-accepted l s lost passed in
       by-test (eqb lost noChip)
       (λ e.
       let none-lost = eqb-true lost noChip e in
       rw none-lost (open-every l (usable (o .within)) s (rw none-lost at (o .sound)) noChip k .sound))
-      (λ e. rw (open-lost l s lost (eqb-false lost noChip e)) (every-nil l (SoundBut l lost) s (o .sound) k))
+      (λ e. rw (open-lost l s lost (eqb-false lost noChip e)) (every-nil l (SoundBut l (isLost lost)) s (o .sound) k))
 
   pub soundness-kept : SoundnessKept l
   soundness-kept = record {

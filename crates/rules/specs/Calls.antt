@@ -17,7 +17,8 @@ use Rattle.rules.specs.Open.{openSteps}
 use Rattle.rules.specs.Collect.{collectSteps}
 use Rattle.rules.specs.Commit.{commitSteps}
 use Rattle.rules.specs.Write.{writeSteps}
-use Rattle.rules.specs.Read.{Fetched, fetch}
+use Rattle.rules.specs.Fetch.{Fetched}
+use Rattle.rules.specs.Read.{fetch}
 use Rattle.rules.specs.Format.{formatSteps}
 
 -- the answer of a call that stores, and every byte of the images after it

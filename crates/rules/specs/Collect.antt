@@ -11,6 +11,8 @@ use Rattle.layout.specs.Collection.{Collection}
 use Rattle.layout.specs.Images.{Images}
 use Rattle.steps.specs.Store.{program, collection}
 use Rattle.steps.specs.Steps.{Step, plain, andThen, stepsBelow}
+use Rattle.rules.specs.Fetch.{Feed, fed, feedIn}
+use Rattle.rules.specs.Names.{roleOf}
 use Rattle.rules.specs.Blocks.{namedIn, unnamedIn, fullBlock, lowestCleanBlock}
 use Rattle.rules.specs.Open.{finishSteps}
 
@@ -19,10 +21,10 @@ abbrev pub phase : ℕ → ℕ → ℕ → ℕ → Collection
 phase n c victim destination =
     record { phase = n; chip = c; victim = victim; destination = destination; rest = 0 }
 
--- a copy of page p, which is x: its data and its stamp, and where it is copied from
-abbrev pub copyOf : ℕ → Page → Page
-copyOf p x =
-    record { bytes = x .bytes; kind = x .kind; member = x .member; stripe = x .stripe; copied = p }
+-- a copy of page p, which is x, with the data xs: its stamp, and where it is copied from
+abbrev pub copyOf : ℕ → Page → List ℕ → Page
+copyOf p x xs =
+    record { bytes = xs; kind = x .kind; member = x .member; stripe = x .stripe; copied = p }
 
 module _ (l : Layout) where
   open Layout l using (K, B)
@@ -41,17 +43,17 @@ module _ (l : Layout) where
     unfoldable pub victimOf : Found
     victimOf = leastBelow B collectable namedCount
 
+  -- the pages of chip c are x, as copies they are fed with `page`, and the records are r
+  module _ (c : ℕ) (x : ℕ → Page) (page : ℕ → Feed) (r : ℕ → Record) where
     -- "copy the named pages in ascending order to places 0, 1, ..": what is done of place i of the victim;
     -- "A copied page is one read."
     unfoldable pub copyFrom : ℕ → ℕ → ℕ → List Step
     copyFrom victim destination i =
         cond (namedIn l r c victim i)
-        (record {
-          reads = 1;
-          store =
-              program c (pageIn l destination (countBelow i (namedIn l r c victim)))
-              (copyOf (pageIn l victim i) (x (pageIn l victim i)));
-        } ∷ [])
+        (fed (page (pageIn l victim i))
+        (λ xs. program c (pageIn l destination (countBelow i (namedIn l r c victim)))
+        (copyOf (pageIn l victim i) (x (pageIn l victim i)) xs))
+        ∷ [])
         []
 
     -- "Store phase 1; copy ..; store phase 2"
@@ -63,12 +65,18 @@ module _ (l : Layout) where
     -- "the victim is ..; the destination is the lowest clean block"; what follows phase 2 is what open does of it
     abbrev pub collectOf : Images → List Step
     collectOf s =
-        whenFound victimOf
+        whenFound (victimOf c x r)
         (λ victim. whenFound (lowestCleanBlock l x)
         (λ destination. andThen l (copySteps victim destination) (finishSteps l) s)
         [])
         []
 
+  -- page p of chip c, in the role that the record of its stripe has for it
+  unfoldable pub copyFeed : ℕ → Images → ℕ → Feed
+  copyFeed c s p =
+      feedIn l s (pageAt l (s .chips) c p .stripe)
+      (roleOf l c (pageAt l (s .chips) c p .stripe) (recordAt l (s .records) (pageAt l (s .chips) c p .stripe)) p)
+
   -- the collection of chip c, from the images
   unfoldable pub collectSteps : ℕ → Images → List Step
-  collectSteps c s = collectOf c (pageAt l (s .chips) c) (recordAt l (s .records)) s
+  collectSteps c s = collectOf c (pageAt l (s .chips) c) (copyFeed c s) (recordAt l (s .records)) s

@@ -7,6 +7,8 @@ use Rattle.layout.specs.Layout.{Layout, none}
 use Rattle.layout.specs.Rotation.{parityChip, memberOn}
 use Rattle.layout.specs.Page.{dataKind, parityKind}
 use Rattle.layout.specs.Record.{Record}
+use Rattle.rules.specs.declared.Role.{Role}
+use Rattle.rules.specs.declared.Role.the-variants.{Current, Old, Parity}
 
 module _ (l : Layout) where
   open Layout l using (S)
@@ -18,6 +20,12 @@ module _ (l : Layout) where
   -- Beside it may stand the member's old page.
   unfoldable pub sideNumber : ℕ → ℕ → Record → ℕ
   sideNumber c j r = cond (eqb c (parityChip l j)) (none l) (r .old (memberOn l j c))
+
+  -- the role of page p there
+  unfoldable pub roleOf : ℕ → ℕ → Record → ℕ → Role
+  roleOf c j r p =
+      cond (eqb c (parityChip l j)) Parity
+      (cond (eqb (r .current (memberOn l j c)) p) (Current (memberOn l j c)) (Old (memberOn l j c)))
 
   -- the kind of a page of stripe j on chip c: "68 data, 80 parity"
   unfoldable pub kindOn : ℕ → ℕ → ℕ

@@ -1,17 +1,13 @@
--- Document 01, "Place on a chip".
+-- Document 01, "Place on a chip"; x gives the chip's pages.
 use Prim.Native.Nat.{ℕ}
 use mathlib.Core.Bool.{Bool, not, cond, _&&_}
-use mathlib.Core.List.{List, []}
 use lib.Dec.{leb}
 use Rattle.ranges.specs.declared.Found.{Found}
 use Rattle.ranges.specs.declared.Found.the-variants.{At, Nothing}
 use Rattle.ranges.specs.Look.{countBelow, firstBelow, orElse, whenFound}
 use Rattle.layout.specs.Layout.{Layout, pageIn}
-use Rattle.layout.specs.Page.{Page, pageAt}
-use Rattle.layout.specs.Images.{Images}
-use Rattle.steps.specs.Steps.{Step, andThen}
+use Rattle.layout.specs.Page.{Page}
 use Rattle.rules.specs.Blocks.{cleanIn, cleanBlock, fullBlock, lowestCleanBlock}
-use Rattle.rules.specs.Collect.{collectSteps}
 
 module _ (l : Layout) where
   open Layout l using (K, B)
@@ -32,15 +28,3 @@ module _ (l : Layout) where
       (cond (leb 2 (countBelow B (cleanBlock l x)))
       (whenFound (lowestCleanBlock l x) (λ b. At (pageIn l b 0)) Nothing)
       Nothing)
-
-  -- "else collect": what is done before the place is there
-  unfoldable pub roomSteps : ℕ → Images → List Step
-  roomSteps c s = whenFound (placeOf (pageAt l (s .chips) c)) (λ p. []) (collectSteps l c s)
-
-  -- what f does at the place on chip c
-  unfoldable pub atPlace : ℕ → (ℕ → Images → List Step) → Images → List Step
-  atPlace c f s = whenFound (placeOf (pageAt l (s .chips) c)) (λ p. f p s) []
-
-  -- "then look again"
-  unfoldable pub placed : ℕ → (ℕ → Images → List Step) → Images → List Step
-  placed c f s = andThen l (roomSteps c s) (atPlace c f) s

@@ -15,7 +15,7 @@ use Rattle.rules.specs.declared.Refusal.the-variants.{Geometry, Buffers,
 use Rattle.rules.specs.declared.Check.{Check}
 use Rattle.rules.specs.declared.Check.the-variants.{Passed, Failed}
 use Rattle.rules.specs.Collect.{victimOf}
-use Rattle.rules.specs.Sound.{recordsSound, sparesSound}
+use Rattle.rules.specs.Sound.{isLost, recordsSound, sparesSound}
 
 -- the column "No."
 abbrev pub refusalNumber : Refusal → ℕ
@@ -61,7 +61,7 @@ module _ (l : Layout) where
   -- row 5
   abbrev pub sparesCheck : Images → ℕ → Bool
   sparesCheck s lost =
-      sparesSound l (recordAt l (s .records)) (pageAt l (s .chips)) (collectionAt l (s .records)) lost
+      sparesSound l (recordAt l (s .records)) (pageAt l (s .chips)) (collectionAt l (s .records)) (isLost lost)
 
   -- "phase not 0"
   abbrev pub atRest : Images → Bool

@@ -14,6 +14,10 @@ use Rattle.rules.specs.Blocks.{cleanBlock, orderedBlock, namedIn, unname
 abbrev pub collecting : Collection → ℕ → Bool
 collecting co c = (eqb (co .phase) 1 || eqb (co .phase) 2) && eqb (co .chip) c
 
+-- chip c is the lost one
+abbrev pub isLost : ℕ → ℕ → Bool
+isLost lost c = eqb c lost
+
 -- "no slot in two records": none before j has its slot
 abbrev pub ownSlot : (ℕ → Record) → ℕ → Bool
 ownSlot r j = not (slotted r j) || not (someBelow j (slotOf r (r j .slot)))
@@ -141,9 +145,9 @@ module _ (l : Layout) where
         (someBelow B (cleanBlock l x))
 
   -- "Spares, on every chip but the lost one": y gives the pages of each chip
-  abbrev pub soundOrLost : (ℕ → Record) → (ℕ → ℕ → Page) → Collection → ℕ → ℕ → Bool
-  soundOrLost r y co lost c = eqb c lost || chipSound r (y c) c co
+  abbrev pub soundOrExempt : (ℕ → Record) → (ℕ → ℕ → Page) → Collection → (ℕ → Bool) → ℕ → Bool
+  soundOrExempt r y co exempt c = exempt c || chipSound r (y c) c co
 
-  -- all chips
-  unfoldable pub sparesSound : (ℕ → Record) → (ℕ → ℕ → Page) → Collection → ℕ → Bool
-  sparesSound r y co lost = allBelow (N + 1) (soundOrLost r y co lost)
+  -- all chips but those that are exempt
+  unfoldable pub sparesSound : (ℕ → Record) → (ℕ → ℕ → Page) → Collection → (ℕ → Bool) → Bool
+  sparesSound r y co exempt = allBelow (N + 1) (soundOrExempt r y co exempt)

@@ -17,7 +17,7 @@ use Rattle.layout.proofs.Limits.{within}
 use Rattle.rules.specs.Blocks.{cleanIn, usedIn, cleanBlock, fullBlock, inOrder, orderedBlock}
 use Rattle.rules.specs.Place.{openBlock}
 use Rattle.rules.proofs.Space.Places.{clean-at}
-use Rattle.spares.proofs.Scanning.{OnChip, place-low}
+use Rattle.codec.proofs.Fetching.{OnChip, place-low}
 use Rattle.space.specs.Ordered.{Ordered}
 
 module _ (l : Layout) (x : ℕ → Page) (b : ℕ) (order : orderedBlock l x b ≡ true) where

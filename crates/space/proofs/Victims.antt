@@ -1,16 +1,16 @@
 -- The victim: a block can be collected where it is full and has fewer named pages than pages; the named ones are counted by their stamps.
 use Prim.Native.Nat.{ℕ, zero, suc, _≤_, _<_}
-use native.Mathlib.Nat.{le-step, lt-suc-self, le-refl}
+use native.Mathlib.Nat.{le-step, lt-suc-self}
 use native.Mathlib.Omega.{arith}
 use mathlib.Core.Path.{_≡_, refl, sym, _∙_}
 use mathlib.Core.Bool.{Bool, true, _&&_}
 use mathlib.Core.List.{List}
 use lib.Dec.{ltb}
-use borrow.Author.Tests.{not-true, not-false, lt-ltb, le-ltb, ltb-true}
+use borrow.Author.Tests.{not-true, not-false, lt-ltb, ltb-true}
 use Rattle.ranges.specs.declared.Found.{Found}
 use Rattle.ranges.specs.declared.Found.the-variants.{At, Nothing}
-use Rattle.ranges.specs.Look.{someBelow, better, leastBelow, whenFound}
-use Rattle.ranges.proofs.Looks.{by-test, by-found, some-at, some-none, least-at}
+use Rattle.ranges.specs.Look.{someBelow, better, leastBelow, leastSoFar, whenFound}
+use Rattle.ranges.proofs.Looks.{by-test, some-at, some-none, least-at}
 use Rattle.ranges.proofs.Counts.{count-cong, count-all, count-less}
 use Rattle.ranges.proofs.Tests.{and-both}
 use Rattle.ranges.proofs.Tallies.{same-tests}
@@ -27,7 +27,7 @@ use Rattle.names.proofs.Stamping.{named-by-stamp}
 use Rattle.spares.specs.declared.ChipScan.{ChipScan}
 use Rattle.spares.specs.Scans.{byStampIn, byStampCount, loose, chipScan, chipScans}
 use Rattle.spares.proofs.Scanning.{scans-at}
-use Rattle.space.specs.Victims.{victimIn, victimWanted, VictimFor, Victims}
+use Rattle.space.specs.Victims.{victimWanted, VictimFor, Victims}
 
 -- ---- the least of numbers
 
@@ -93,16 +93,10 @@ module _ {g : Geometry} {chips records : List ℕ} {c : ℕ} (h : StampsPass g c
       rw (full, by-stamp-named b low) (lt-ltb (namedCount l c x r b) (g .k) few))
 
   -- the scan of the whole chip has found the victim
-  pub victim-found : {s : ChipScan} → s ≡ chipScan l r x c (g .b) → victimIn (g .k) s ≡ victimOf l c x r
-  unfolding chipScan victimIn victimOf loose whenFound
+  pub victim-found : {s : ChipScan} → s ≡ chipScan l r x c (g .b) → s .victim .at ≡ victimOf l c x r
+  unfolding chipScan leastSoFar victimOf
   victim-found e =
-      let same = least-cong (g .b) (loose l r x c) (collectable l c x r) (byStampCount l r x c) (namedCount l c x r) loose-collectable by-stamp-named in
-      by-found (leastBelow (g .b) (loose l r x c) (byStampCount l r x c))
-      (λ v found.
-      let (_, passes, _, _) = least-at (g .b) (loose l r x c) (byStampCount l r x c) v found in
-      let (_, few) = and-both (fullBlock l x v) (ltb (byStampCount l r x c v) (g .k)) passes in
-      rw (e, found, few) (sym found ∙ same))
-      (λ nothing. rw (e, nothing, le-ltb (g .k) (g .k) (le-refl (g .k))) (sym nothing ∙ same))
+      rw e (least-cong (g .b) (loose l r x c) (collectable l c x r) (byStampCount l r x c) (namedCount l c x r) loose-collectable by-stamp-named)
 
 -- the one that is wanted is the victim, where there is no place
 pub victim-wanted : {g : Geometry} {chips records : List ℕ} {c : ℕ} {v : Found}

@@ -1,12 +1,10 @@
 -- The victim of a chip, from the scan of its blocks.
 use mathlib.Core.Path.{_≡_}
-use mathlib.Core.Bool.{cond}
 use mathlib.Core.List.{List}
 use Prim.Native.Nat.{ℕ, _≤_}
-use lib.Dec.{ltb}
 use lib.ListN.{length, getD}
 use Rattle.ranges.specs.declared.Found.{Found}
-use Rattle.ranges.specs.declared.Found.the-variants.{At, Nothing}
+use Rattle.ranges.specs.declared.Found.the-variants.{Nothing}
 use Rattle.ranges.specs.Look.{whenFound}
 use Rattle.layout.specs.declared.Geometry.{Geometry}
 use Rattle.layout.specs.Layout.{Layout, layoutOf}
@@ -16,10 +14,6 @@ use Rattle.rules.specs.Place.{placeOf}
 use Rattle.rules.specs.Collect.{victimOf}
 use Rattle.spares.specs.declared.ChipScan.{ChipScan}
 use Rattle.spares.specs.Scans.{unscanned}
-
--- the victim that a scan has found; K named pages stand for none
-unfoldable pub victimIn : ℕ → ChipScan → Found
-victimIn k s = cond (ltb (s .fewest) k) (At (s .victim)) Nothing
 
 -- the victim that is wanted of chip c, with its pages x and the records r: none where it has a place
 unfoldable pub victimWanted : Layout → ℕ → (ℕ → Page) → (ℕ → Record) → Found
@@ -34,4 +28,4 @@ pub record VictimFor (g : Geometry) (chips records : List ℕ) (c : ℕ) (v : Fo
 pub record Victims (g : Geometry) (chips records : List ℕ) (scans : List ChipScan) : Type 0 where
   pub long : length scans ≡ 7
   pub at : (c : ℕ) → c ≤ g .n
-      → victimIn (g .k) (getD scans c unscanned) ≡ victimOf (layoutOf g) c (pageAt (layoutOf g) chips c) (recordAt (layoutOf g) records)
+      → getD scans c unscanned .victim .at ≡ victimOf (layoutOf g) c (pageAt (layoutOf g) chips c) (recordAt (layoutOf g) records)

@@ -1,31 +1,19 @@
 //! Where a chip has room: the place of the next page, the block to collect, the block to copy to.
 
-use bytes::byte;
-use codec::page_offset;
+use codec::scan::is_clean;
 use layout::Geometry;
 use ranges::Found;
 use spares::ChipScan;
 use spares::scan_chip;
 ghost use mathlib.Core.Path.{_≡_};
-ghost use Prim.Native.Nat.{_≤_, _<_};
-ghost use Rattle.layout.specs.Layout.{layoutOf, pages};
-ghost use Rattle.layout.specs.Page.{pageAt, clean as isClean};
+ghost use Rattle.layout.specs.Layout.{layoutOf};
+ghost use Rattle.layout.specs.Page.{pageAt};
 ghost use Rattle.layout.specs.Record.{recordAt};
 ghost use Rattle.rules.specs.Blocks.{lowestCleanBlock};
 ghost use Rattle.rules.specs.Place.{placeOf};
-ghost use Rattle.codec.specs.Fit.{ChipsFit};
 ghost use Rattle.names.specs.Stamps.{StampsPass};
 ghost use Rattle.space.specs.Ordered.{Ordered};
-ghost use Rattle.space.specs.Victims.{victimIn, victimWanted};
-
-// Whether page p of chip c is clean.
-fn is_clean(chips: &[u8], g: Geometry, c: usize, p: usize) -> bool
-    requires { ⌜ ChipsFit g (now chips) × (c ≤ g .n) × (p < pages (layoutOf g)) ⌝ }
-    ensures { λ r. ⌜ r ≡ isClean (pageAt (layoutOf g) (now (chips .entry)) c p) ⌝ }
-{
-    let w = g.w as usize;
-    byte(chips, page_offset(g, c, p) + w) == 255
-}
+ghost use Rattle.space.specs.Victims.{victimWanted};
 
 // The place on chip c, if there is one. In a block its used pages come first: the block is begun where its first page is used and has
 // room where its last one is clean.
@@ -88,14 +76,11 @@ pub fn clean_block_on(chips: &[u8], g: Geometry, c: usize) -> Found
 }
 
 // The victim that the scan of a whole chip has found, if any.
-pub fn victim_in(g: Geometry, s: ChipScan) -> Found
-    ensures { λ r. ⌜ r ≡ victimIn (g .k) s ⌝ }
+pub fn victim_in(s: ChipScan) -> Found
+    ensures { λ r. ⌜ r ≡ s .victim .at ⌝ }
 {
-    if s.fewest < g.k as usize {
-        Found::At(s.victim)
-    } else {
-        Found::Nothing
-    }
+    let least = s.victim;
+    least.at
 }
 
 // The full block of chip c with fewest named pages, if one has a page that is not named; none where the chip has a place, for then
@@ -107,5 +92,5 @@ pub fn victim_on(chips: &[u8], records: &[u8], g: Geometry, c: usize) -> Found
     if let Found::At(_) = place_on(chips, g, c) {
         return Found::Nothing;
     }
-    victim_in(g, scan_chip(chips, records, g, c))
+    victim_in(scan_chip(chips, records, g, c))
 }

@@ -1,5 +1,5 @@
 -- Where the record of a stripe has the number of a page, found from the page's tag; and the test of the page by that number.
-use Prim.Native.Nat.{ℕ, _+_, _*_, _≤_, _<_}
+use Prim.Native.Nat.{ℕ, _+_, _-_, _*_, _≤_, _<_}
 use native.Mathlib.Omega.{arith}
 use mathlib.Core.Path.{_≡_, refl, sym}
 use mathlib.Core.Logic.{_≢_}
@@ -19,19 +19,19 @@ use Rattle.layout.specs.Record.{recordAt}
 use Rattle.layout.proofs.Limits.{within}
 use Rattle.rules.specs.Names.{mainNumber, sideNumber, kindOn, memberByte, names}
 use Rattle.names.specs.Stamps.{byStamp}
-use Rattle.names.proofs.Readings.{current-in, old-in, parity-in}
-use Rattle.spares.specs.Scans.{TagIs, hasNumber, tagOn, fieldOn, fieldOf, FieldsOf, FieldsFit}
+use Rattle.codec.specs.Scan.{TagIs, tagOf, numberOf}
+use Rattle.spares.specs.Scans.{hasNumber, tagOn, fieldOn, fieldOf, FieldFits, FieldsOf, FieldsFit}
 
 -- ---- the tag and the field of chip c's page of stripe j
 
 module _ (l : Layout) (c j : ℕ) where
   -- on the chip of the parity
-  pub parity-field : c ≡ parityChip l j → (80 ≡ tagOn l c j) × (24 ≡ fieldOn l c j)
+  pub parity-field : c ≡ parityChip l j → (tagOf 80 0 ≡ tagOn l c j) × (12 ≡ fieldOn l c j)
   unfolding fieldOn kindOn memberByte
   parity-field e = rw (eq-eqb c (parityChip l j) e) (refl, refl)
 
   -- on that of member m
-  pub member-field : (m : ℕ) → c ≢ parityChip l j → m ≡ memberOn l j c → (68 + 256 * m ≡ tagOn l c j) × (2 * m ≡ fieldOn l c j)
+  pub member-field : (m : ℕ) → c ≢ parityChip l j → m ≡ memberOn l j c → (tagOf 68 m ≡ tagOn l c j) × (m ≡ fieldOn l c j)
   unfolding fieldOn kindOn memberByte
   member-field m d e = rw (ne-eqb c (parityChip l j) d, ← e) (refl, refl)
 
@@ -59,34 +59,34 @@ module _ (l : Layout) (c t j : ℕ) where
   unfolding fieldOf
   own-field e = rw e
 
-  -- a field is one of a record
+  -- a field is the parity's or a member's
   module _ (low : c ≤ N) (few : N ≤ 6) where
-    on-low : fieldOn l c j ≤ 24
+    on-low : (fieldOn l c j ≤ 12) × (fieldOn l c j ≢ 12 → fieldOn l c j < 6)
     on-low = by-same c (parityChip l j)
-        (λ e. rw (← parity-field l c j e .1) (omega arith))
-        (λ d. rw (← member-field l c j (memberOn l j c) d refl .1) (omega (arith, member-low l c j low few d)))
+        (λ e. rw (← parity-field l c j e .1) (omega arith, λ d. absurd (d refl)))
+        (λ d. let six = member-low l c j low few d in rw (← member-field l c j (memberOn l j c) d refl .1) (omega arith, λ _. six))
 
-    pub field-inside : fieldOf l c t j ≢ 255 → (j < S) × (fieldOf l c t j ≤ 24)
-    field-inside d = by-test (eqb t (tagOn l c j) && ltb j S)
+    pub field-fits : FieldFits l j (fieldOf l c t j)
+    field-fits = by-test (eqb t (tagOn l c j) && ltb j S)
         (λ e.
         let (right, stripe) = and-both (eqb t (tagOn l c j)) (ltb j S) e in
-        (ltb-true j S stripe, rw (← own-field e) on-low))
-        (λ e. absurd (d (sym (no-field e))))
+        rw (← own-field e) (record { stripe = λ _. ltb-true j S stripe; low = λ _. on-low .0; member = λ _. on-low .1 }))
+        (λ e. rw (← no-field e) (record { stripe = λ d. absurd (d refl); low = λ d. absurd (d refl); member = λ d. absurd (d refl) }))
 
 -- ---- the test of a page by its field
 
 -- a tag is right exactly if its kind and its member are
-tag-test : {t k m : ℕ} (kind member : ℕ) → kind < 256 → TagIs t k m → eqb t (kind + 256 * member) ≡ eqb k kind && eqb m member
+tag-test : {t k m : ℕ} (kind member : ℕ) → kind < 256 → TagIs t k m → eqb t (tagOf kind member) ≡ eqb k kind && eqb m member
 tag-test {t} {k} {m} kind member low is =
     let rest = is .kind in
     let over = is .member in
-    same-tests (eqb t (kind + 256 * member)) (eqb k kind && eqb m member)
-    (λ e. let same = eqb-true t (kind + 256 * member) e in both-and (eq-eqb k kind (omega arith)) (eq-eqb m member (omega arith)))
+    same-tests (eqb t (tagOf kind member)) (eqb k kind && eqb m member)
+    (λ e. let same = eqb-true t (tagOf kind member) e in both-and (eq-eqb k kind (omega arith)) (eq-eqb m member (omega arith)))
     (λ e.
     let (a, b) = and-both (eqb k kind) (eqb m member) e in
     let same = eqb-true k kind a in
     let too = eqb-true m member b in
-    eq-eqb t (kind + 256 * member) (omega arith))
+    eq-eqb t (tagOf kind member) (omega arith))
 
 -- the tests of a stamp in the order of its definition, and with the tag as one
 tests-in-order : (s k m n : Bool) → s && (true && k && m && n) ≡ (k && m && s) && n
@@ -107,37 +107,33 @@ module _ (g : Geometry) (xs : List ℕ) (x : ℕ → Page) (c p t j : ℕ) (limi
       rw (← stripe, eq-eqb j j refl, tag-test (kindOn l c j) (memberByte l c j) (kind-low l c j) is)
       (tests-in-order (ltb j (g .s)) k m (names l (recordAt l xs) c p j))
 
-  -- on a stripe that there is, the record names the page exactly if it has its number in the chip's field
-  names-is : j < g .s → hasNumber xs j (fieldOn (layoutOf g) c j) p ≡ names (layoutOf g) (recordAt (layoutOf g) xs) c p j
-  unfolding names mainNumber sideNumber none hasNumber
-  names-is low = by-same c (parityChip (layoutOf g) j)
-      (λ e. rw (
-        ← parity-field (layoutOf g) c j e .1,
-        eq-eqb c (parityChip (layoutOf g) j) e,
-        parity-in g xs j low,
-        ne-eqb 65535 p (λ q. omega arith),
-      ) refl)
+  -- the record names the page exactly if it has its number in the chip's field
+  names-is : hasNumber (recordAt (layoutOf g) xs j) (fieldOn (layoutOf g) c j) p ≡ names (layoutOf g) (recordAt (layoutOf g) xs) c p j
+  unfolding names mainNumber sideNumber none hasNumber numberOf
+  names-is = by-same c (parityChip (layoutOf g) j)
+      (λ e. rw (← parity-field (layoutOf g) c j e .1, eq-eqb c (parityChip (layoutOf g) j) e, ne-eqb 65535 p (λ q. omega arith)) refl)
       (λ d.
       let m = memberOn (layoutOf g) j c in
       let six = member-low (layoutOf g) c j chip (within (layoutOf g) limited .members-high) d in
-      let e : j * 32 + 2 * m + 12 ≡ j * 32 + 12 + 2 * m = omega arith in
+      let old : 6 + m - 6 ≡ m = omega arith in
       rw (
         ← member-field (layoutOf g) c j m d refl .1,
         ne-eqb c (parityChip (layoutOf g) j) d,
-        current-in g xs j low m six,
-        old-in g xs j low m six,
-        ne-eqb (2 * m) 255 (λ q. omega arith),
-        ne-eqb (2 * m) 24 (λ q. omega arith),
-        e,
+        ne-eqb m 255 (λ q. omega arith),
+        ne-eqb m 12 (λ q. omega arith),
+        lt-ltb m 6 six,
+        le-ltb (6 + m) 6 (omega arith),
+        lt-ltb (6 + m) 12 (omega arith),
+        old,
       ) refl)
 
-  pub field-test : hasNumber xs j (fieldOf (layoutOf g) c t j) p ≡ byStamp (layoutOf g) (recordAt (layoutOf g) xs) x c p
+  pub field-test : hasNumber (recordAt (layoutOf g) xs j) (fieldOf (layoutOf g) c t j) p ≡ byStamp (layoutOf g) (recordAt (layoutOf g) xs) x c p
   unfolding hasNumber
   field-test =
       let l = layoutOf g in
       let right = eqb t (tagOn l c j) && ltb j (g .s) in
       by-test right
-      (λ e. rw (stamp-is, e, ← own-field l c t j e) (names-is (ltb-true j (g .s) (and-both (eqb t (tagOn l c j)) (ltb j (g .s)) e .1))))
+      (λ e. rw (stamp-is, e, ← own-field l c t j e) names-is)
       (λ e. rw (stamp-is, e, ← no-field l c t j e) refl)
 
 -- ---- the fields of a block
@@ -145,11 +141,6 @@ module _ (g : Geometry) (xs : List ℕ) (x : ℕ → Page) (c p t j : ℕ) (limi
 -- each is one of a record
 pub fields-fit : (g : Geometry) (c : ℕ) {tags stripes fields : List ℕ} → limits (layoutOf g) ≡ true → c ≤ g .n
     → FieldsOf (layoutOf g) c tags stripes fields → FieldsFit (layoutOf g) stripes fields
-fields-fit g c {tags} {stripes} {fields} limited chip found =
+fields-fit g c {tags} {stripes} limited chip found =
     let l = layoutOf g in
-    let few = within l limited .members-high in
-    record {
-      inside = λ i h d.
-          let in-record = field-inside l c (getD tags i 0) (getD stripes i 0) chip few (rw (found .is i h) at d) in
-          rw (found .is i h) in-record;
-    }
+    record { fit = λ i h. rw (found .is i h) (field-fits l c (getD tags i 0) (getD stripes i 0) chip (within l limited .members-high)) }

@@ -19,7 +19,7 @@ use Rattle.layout.specs.Record.{Record, recordAt}
 use Rattle.layout.specs.Collection.{Collection, collectionAt}
 use Rattle.layout.proofs.Limits.{within}
 use Rattle.rules.specs.Blocks.{cleanBlock, orderedBlock}
-use Rattle.rules.specs.Sound.{collecting, stampedStripe, phase1Sound, phase2Sound, chipSound, soundOrLost, sparesSound}
+use Rattle.rules.specs.Sound.{isLost, collecting, stampedStripe, phase1Sound, phase2Sound, chipSound, soundOrExempt, sparesSound}
 use Rattle.rules.proofs.Soundness.Statements.{RecordsSound}
 use Rattle.rules.proofs.Soundness.RecordChecks.{records-sound}
 use Rattle.codec.specs.declared.CollectionRecord.{CollectionRecord}
@@ -29,8 +29,10 @@ use Rattle.names.specs.Stamps.{byStamp, StampsPass}
 use Rattle.ranges.proofs.Tallies.{same-tests}
 use Rattle.spares.specs.declared.ChipScan.{ChipScan}
 use Rattle.names.specs.Checked.{RecordsPass}
-use Rattle.spares.specs.Scans.{chipScan, phaseSound}
-use Rattle.names.proofs.Totals.{foundOn, stampedOrLost, namesKept, total-stamps}
+use Rattle.spares.specs.Scans.{chipScan}
+use Rattle.spares.specs.Phases.{phaseSound}
+use Rattle.names.specs.Stamps.{namesKept}
+use Rattle.names.proofs.Totals.{foundOn, stampedOrLost, total-stamps}
 
 -- ---- tests
 
@@ -84,12 +86,12 @@ module _ (l : Layout) (r : ℕ → Record) (y : ℕ → ℕ → Page) (co : Coll
   -- the verdict in three parts
   pub three-parts : co .chip ≤ N
       → allBelow (N + 1) (stampedOrLost l r y lost) && allBelow (N + 1) shapedOrLost && (eqb (co .chip) lost || phaseSound l r (y (co .chip)) co)
-      ≡ sparesSound l r y co lost
+      ≡ sparesSound l r y co (isLost lost)
   unfolding sparesSound chipSound
   three-parts low =
       let stamped = stampedOrLost l r y lost in
       let parts : ℕ → Bool = λ c. stamped c && shapedOrLost c && phasedOrLost c in
-      let each : allBelow (N + 1) (soundOrLost l r y co lost) ≡ allBelow (N + 1) parts = all-cong (N + 1) (soundOrLost l r y co lost) parts (λ c _.
+      let each : allBelow (N + 1) (soundOrExempt l r y co (isLost lost)) ≡ allBelow (N + 1) parts = all-cong (N + 1) (soundOrExempt l r y co (isLost lost)) parts (λ c _.
       split (eqb c lost) (allBelow (l .S) (stampedStripe l r (y c) c)) (allBelow B (orderedBlock l (y c))) (someBelow B (cleanBlock l (y c)))
       (eqb (co .phase) 1) (eqb (co .phase) 2) (eqb (co .chip) c) (phase1Sound l r c (co .destination)) (phase2Sound l r (y c) c (co .victim) (co .destination))) in
       sym (each
@@ -169,7 +171,7 @@ module _ {g : Geometry} {records : List ℕ} {co : CollectionRecord} (pass : Rec
     -- the verdict as the code comes to it
     pub verdict : let l = layoutOf g in
         eqb named kept && shaped && (eqb (co .chip) lost || phaseSound l (recordAt l records) (pageAt l chips (co .chip)) (collectionAt l records))
-        ≡ sparesSound l (recordAt l records) (pageAt l chips) (collectionAt l records) lost
+        ≡ sparesSound l (recordAt l records) (pageAt l chips) (collectionAt l records) (isLost lost)
     verdict =
         let l = layoutOf g in
         rw (stamps-test, h .shapes, end, is .chip) (three-parts l (recordAt l records) (pageAt l chips) (collectionAt l records) lost chip-low)

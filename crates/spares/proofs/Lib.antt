@@ -1,4 +1,4 @@
-pub mod Fetching
 pub mod Fields
 pub mod Judging
 pub mod Scanning
+pub mod Twins

@@ -1,6 +1,6 @@
--- Page numbers that fit, what the loops over a block and over a chip have found so far, and the test of a twin.
-use Prim.Native.Nat.{ℕ, zero, suc, _+_, _-_, _*_, _%_, _≤_, _<_}
-use native.Mathlib.Nat.{suc-mul, zero-mul, mul-le-mul-right, le-refl}
+-- What the loops over a block and over a chip have found so far.
+use Prim.Native.Nat.{ℕ, zero, suc, _+_, _-_, _*_, _≤_, _<_}
+use native.Mathlib.Nat.{suc-mul, zero-mul, le-refl}
 use native.Mathlib.Numerals.{add-one}
 use native.Mathlib.Omega.{arith}
 use mathlib.Core.Path.{_≡_, refl, sym, _∙_}
@@ -10,53 +10,29 @@ use mathlib.Core.Logic.{_≢_}
 use lib.ListN.{length, getD, set, replicate, length-set, getD-replicate}
 use lib.Seq.{getD-set-same, getD-set-other, ext-getD}
 use lib.Dec.{eqb, ltb}
-use borrow.Author.Tests.{eq-eqb, ne-eqb, lt-ltb, le-ltb, ltb-true, ltb-false}
-use Rattle.ranges.specs.declared.Found.{Found}
-use Rattle.ranges.specs.declared.Found.the-variants.{At}
-use Rattle.ranges.specs.Look.{allBelow, someBelow, countBelow, leastBelow, whenFound}
+use borrow.Author.Tests.{eq-eqb, ne-eqb, lt-ltb, le-ltb}
+use Rattle.ranges.specs.declared.Least.{Least}
+use Rattle.ranges.specs.Look.{allBelow, someBelow, countBelow, leastSoFar}
 use Rattle.ranges.proofs.Counts.{count-start, count-le}
-use Rattle.ranges.proofs.Looks.{at-last, by-test, by-order, by-found, both, all-cong, least-start, least-skips, least-here, least-better, least-keeps, least-at}
-use Rattle.ranges.proofs.Tests.{and-both, both-and, or-right, cond-same}
-use Rattle.layout.specs.declared.Geometry.{Geometry}
-use Rattle.layout.specs.Layout.{Layout, layoutOf, limits, none, pages}
+use Rattle.ranges.proofs.Looks.{at-last, by-order, all-cong}
+use Rattle.ranges.proofs.Tests.{or-right, cond-same}
+use Rattle.layout.specs.Layout.{Layout}
 use Rattle.layout.specs.Page.{Page}
 use Rattle.layout.specs.Record.{Record}
-use Rattle.layout.proofs.Limits.{within}
-use Rattle.layout.proofs.Pages.{page-in-fits}
-use Rattle.rules.specs.Names.{named as namedPage}
 use Rattle.rules.specs.Blocks.{cleanIn, usedIn, inOrder, cleanBlock, fullBlock, orderedBlock}
-use Rattle.rules.specs.Sound.{twin}
-use Rattle.codec.specs.declared.Spare.{Spare}
-use Rattle.codec.specs.Views.{spareOf}
+use Rattle.codec.specs.Scan.{cleanTag, StampsOf}
 use Rattle.names.specs.Stamps.{byStamp}
 use Rattle.ranges.proofs.Tallies.{count-from}
-use Rattle.spares.specs.declared.Scan.{Scan}
+use Rattle.spares.specs.declared.block.Scan.{Scan}
 use Rattle.spares.specs.declared.ChipScan.{ChipScan}
-use Rattle.spares.specs.declared.Fill.{Fill}
-use Rattle.spares.specs.Scans.{unscanned, byStampIn, StampsOf, fillOf, byStampCount, loose, blockScan, chipScan, scanOf, chipScans}
-
--- ---- page numbers
-
--- p is a page of a chip, and so a number of two bytes
-abbrev pub OnChip : Geometry → ℕ → Type 0
-OnChip g p = (p < pages (layoutOf g)) × (p < 65535)
-
-module _ (g : Geometry) (limited : limits (layoutOf g) ≡ true) where
-  -- the first b blocks have no more pages than two bytes number
-  pub start-low : (b : ℕ) → b ≤ g .b → b * g .k ≤ 65535
-  unfolding none
-  start-low b h = omega (arith, within (layoutOf g) limited .pages-numbered, mul-le-mul-right (g .k) h)
-
-  -- a place of a block is a page
-  pub place-low : (b i : ℕ) → b < g .b → i < g .k → OnChip g (b * g .k + i)
-  place-low b i block place =
-      let low = page-in-fits (layoutOf g) b i block place in (low, omega (arith, start-low (g .b) (le-refl (g .b))))
+use Rattle.spares.specs.declared.block.Fill.{Fill}
+use Rattle.spares.specs.Scans.{unscanned, byStampIn, fillOf, byStampCount, loose, blockScan, chipScan, scanOf, chipScans}
 
 -- ---- block b of a chip, with its pages x
 
 -- the page at place i is clean by its tag
 abbrev pub freeTag : List ℕ → ℕ → Bool
-freeTag tags i = eqb (getD tags i 0 % 256) 255
+freeTag tags i = cleanTag (getD tags i 0)
 
 -- it is used
 abbrev pub usedTag : List ℕ → ℕ → Bool
@@ -89,52 +65,15 @@ pub block-scan : (l : Layout) (r : ℕ → Record) (x : ℕ → Page) (c b : ℕ
 unfolding blockScan fillOf byStampCount
 block-scan l r x c b o e n = rw (o, e, n)
 
--- ---- the least so far, of those that are full and whose measure m is below a bound
-
-module _ (full : ℕ → Bool) (m : ℕ → ℕ) (bound n : ℕ) where
-  abbrev apt : ℕ → Bool
-  apt i = full i && ltb (m i) bound
-
-  abbrev least : Found
-  least = leastBelow n apt m
-
-  -- n is full and its measure is less
-  least-takes : full n && ltb (m n) (whenFound least m bound) ≡ true → leastBelow (suc n) apt m ≡ At n
-  unfolding whenFound
-  least-takes t =
-      let (f, less) = and-both (full n) (ltb (m n) (whenFound least m bound)) t in
-      by-found least
-      (λ i e.
-      let fewer : m n < m i = ltb-true (m n) (m i) (rw e at less) in
-      let (_, passes, _, _) = least-at n apt m i e in
-      let under = ltb-true (m i) bound (and-both (full i) (ltb (m i) bound) passes .1) in
-      least-better n apt m i (both-and f (lt-ltb (m n) bound (omega arith))) e fewer)
-      (λ e. least-here n apt m (both-and f (rw e at less)) e)
-
-  -- or it is not
-  least-stays : full n && ltb (m n) (whenFound least m bound) ≡ false → leastBelow (suc n) apt m ≡ least
-  unfolding whenFound
-  least-stays t = by-test (apt n)
-      (λ s.
-      let (f, under) = and-both (full n) (ltb (m n) bound) s in
-      let more : ltb (m n) (whenFound least m bound) ≡ false = rw f at t in
-      by-found least
-      (λ i e. least-keeps n apt m i s e (ltb-false (m n) (m i) (rw e at more)) ∙ sym e)
-      (λ e. both (ltb (m n) bound) under (rw e at more)))
-      (least-skips n apt m)
-
 -- ---- the blocks of chip c below b, with its pages x
 
 -- nothing before the first
-pub scan-start : (l : Layout) (r : ℕ → Record) (x : ℕ → Page) (c : ℕ)
-    → record { ordered = true; clean = false; named = 0; victim = 0; fewest = l .K } ≡ chipScan l r x c 0
-unfolding chipScan allBelow someBelow whenFound
-scan-start l r x c = rw (zero-mul, count-start (byStamp l r x c), least-start (loose l r x c) (byStampCount l r x c))
+pub scan-start : {v : Least} → ((f : ℕ → Bool) (m : ℕ → ℕ) → v ≡ leastSoFar f m 0) → (l : Layout) (r : ℕ → Record) (x : ℕ → Page) (c : ℕ)
+    → record { ordered = true; clean = false; named = 0; victim = v } ≡ chipScan l r x c 0
+unfolding chipScan allBelow someBelow
+scan-start h l r x c = rw (zero-mul, count-start (byStamp l r x c), h (loose l r x c) (byStampCount l r x c))
 
--- s with one block more, of which n is the scan; the victim is v, with f named pages
-abbrev withBlock : ChipScan → Scan → ℕ → ℕ → ChipScan
-withBlock s n v f = record { ordered = s .ordered && n .ordered; clean = s .clean || n .clean; named = s .named + n .named; victim = v; fewest = f }
-
+-- s with block b, of which n is the scan, and the victim v
 module _ (l : Layout) (r : ℕ → Record) (x : ℕ → Page) (c b : ℕ) {s : ChipScan} {n : Scan} (h : s ≡ chipScan l r x c b) (e : n ≡ blockScan l r x c b) where
   open Layout l using (K)
 
@@ -143,23 +82,13 @@ module _ (l : Layout) (r : ℕ → Record) (x : ℕ → Page) (c b : ℕ) {s : C
   unfolding chipScan blockScan byStampCount
   scan-few = rw (h, e, add-one, suc-mul) (omega (arith, count-le (b * K) (byStamp l r x c), count-le K (byStampIn l r x c b)))
 
-  -- the victim is the one found
-  scan-more : (found : Found) {v f : ℕ} → leastBelow (suc b) (loose l r x c) (byStampCount l r x c) ≡ found
-      → v ≡ whenFound found (λ i. i) 0 → f ≡ whenFound found (byStampCount l r x c) K → withBlock s n v f ≡ chipScan l r x c (b + 1)
-  unfolding chipScan blockScan allBelow someBelow byStampCount
-  scan-more found is v f = rw (v, f, h, e, ← is, add-one, suc-mul, count-from (b * K) K (byStamp l r x c))
-
-  -- block b, where it is full and has fewer names than any before
-  pub scan-takes : n .full && ltb (n .named) (s .fewest) ≡ true → withBlock s n b (n .named) ≡ chipScan l r x c (b + 1)
-  unfolding chipScan blockScan loose whenFound
-  scan-takes t = scan-more (At b) (least-takes (fullBlock l x) (byStampCount l r x c) K b (rw (h, e) at t)) refl (rw e)
-
-  -- or the one before
-  pub scan-stays : n .full && ltb (n .named) (s .fewest) ≡ false → withBlock s n (s .victim) (s .fewest) ≡ chipScan l r x c (b + 1)
-  unfolding chipScan blockScan loose
-  scan-stays t =
-      let same = least-stays (fullBlock l x) (byStampCount l r x c) K b (rw (h, e) at t) in
-      scan-more (leastBelow b (loose l r x c) (byStampCount l r x c)) same (rw h) (rw h)
+  pub scan-more : {v : Least}
+      → ((f : ℕ → Bool) (m : ℕ → ℕ) → s .victim ≡ leastSoFar f m b → n .full && ltb (n .named) K ≡ f b → (f b ≡ true → n .named ≡ m b) → v ≡ leastSoFar f m (b + 1))
+      → record { ordered = s .ordered && n .ordered; clean = s .clean || n .clean; named = s .named + n .named; victim = v } ≡ chipScan l r x c (b + 1)
+  unfolding chipScan blockScan allBelow someBelow byStampCount loose
+  scan-more v =
+      let is = v (loose l r x c) (byStampCount l r x c) (rw h) (rw e) (λ _. rw e) in
+      rw (is, h, e, add-one b, suc-mul, count-from (b * K) K (byStamp l r x c))
 
 -- ---- all chips
 
@@ -242,12 +171,3 @@ unfolding chipScans
 all-start l r y lost {s} h = ext-getD unscanned (replicate 7 s) (chipScans l r y lost 0) refl (λ i low.
     getD-replicate 7 i s unscanned low ∙ h i
     ∙ sym (at-seven (scanOf l r y lost 0) i low ∙ rw (cond-same (eqb i lost || ltb (l .N) i) 0)))
-
--- ---- twins
-
--- the test of a twin as the code makes it: t and u are the spare bytes of pages p and q, and n says whether q is named
-pub twin-test : (l : Layout) (r : ℕ → Record) (x : ℕ → Page) (c p q : ℕ) {t u : Spare} {n : Bool}
-    → t ≡ spareOf (x p) → u ≡ spareOf (x q) → n ≡ namedPage l r c q
-    → eqb (u .kind) (t .kind) && eqb (u .member) (t .member) && eqb (u .stripe) (t .stripe) && eqb (u .copied) p && not n ≡ twin l r x c p q
-unfolding twin
-twin-test l r x c p q e f g = rw (e, f, g)

@@ -1,14 +1,13 @@
 -- What one pass over the spare bytes of a chip brings.
-use Prim.Native.Nat.{ℕ, _+_, _*_, _/_, _%_, _≤_, _<_}
+use Prim.Native.Nat.{ℕ, _+_, _*_, _≤_, _<_}
 use mathlib.Core.Path.{_≡_}
 use mathlib.Core.Bool.{Bool, true, false, not, cond, _&&_, _||_}
 use mathlib.Core.List.{List, [], _∷_, map}
 use mathlib.Core.Logic.{_≢_}
-use lib.ListN.{getD}
+use lib.ListN.{length, getD}
 use lib.Dec.{eqb, ltb}
-use Rattle.bytes.specs.Number.{number}
-use Rattle.bytes.specs.Units.{part}
-use Rattle.ranges.specs.Look.{allBelow, someBelow, countBelow, leastBelow, whenFound}
+use Rattle.ranges.specs.declared.Found.the-variants.{At}
+use Rattle.ranges.specs.Look.{allBelow, someBelow, countBelow, leastSoFar}
 use Rattle.layout.specs.Layout.{Layout, pageIn}
 use Rattle.layout.specs.Page.{Page}
 use Rattle.layout.specs.Record.{Record}
@@ -16,29 +15,29 @@ use Rattle.layout.specs.Collection.{Collection}
 use Rattle.layout.specs.Rotation.{parityChip, memberOn}
 use Rattle.rules.specs.Names.{kindOn, memberByte}
 use Rattle.rules.specs.Blocks.{cleanBlock, fullBlock, orderedBlock}
-use Rattle.rules.specs.Sound.{phase1Sound, phase2Sound, sparesSound}
+use Rattle.rules.specs.Sound.{isLost, sparesSound}
+use Rattle.codec.specs.Scan.{tagOf, numberOf}
 use Rattle.names.specs.Stamps.{byStamp}
-use Rattle.spares.specs.declared.Scan.{Scan}
+use Rattle.spares.specs.declared.block.Scan.{Scan}
 use Rattle.spares.specs.declared.ChipScan.{ChipScan}
-use Rattle.spares.specs.declared.Fill.{Fill}
+use Rattle.spares.specs.declared.block.Fill.{Fill}
 use Rattle.spares.specs.declared.Survey.{Survey}
 
--- the tag t is the kind k and behind it the member m
-pub record TagIs (t k m : ℕ) : Type 0 where
-  pub kind : t % 256 ≡ k
-  pub member : t / 256 ≡ m
-
--- with the bytes of the records: the record of stripe j has page p in this field, or as the old page beside it; 255 is no field, and
--- the parity page (24) has no old one beside it
-unfoldable pub hasNumber : List ℕ → ℕ → ℕ → ℕ → Bool
-hasNumber records j field p =
+-- record r has page p in this field, or as the old page beside it; 255 is no field, and the parity page (12) has no old one beside it
+unfoldable pub hasNumber : Record → ℕ → ℕ → Bool
+hasNumber r field p =
     not (eqb field 255)
-    && (eqb (number (part (j * 32 + field) 2 records)) p
-    || (not (eqb field 24) && eqb (number (part (j * 32 + field + 12) 2 records)) p))
+    && (eqb (numberOf r field) p || (not (eqb field 12) && eqb (numberOf r (6 + field)) p))
+
+-- the arrays in which a block is looked at have room for its pages
+pub record Room (tags stripes fields : List ℕ) : Type 0 where
+  pub long-tags : length tags ≡ 128
+  pub long-stripes : length stripes ≡ 128
+  pub long-fields : length fields ≡ 128
 
 -- what stands for no chip
 abbrev pub unscanned : ChipScan
-unscanned = record { ordered = false; clean = false; named = 0; victim = 0; fewest = 0 }
+unscanned = record { ordered = false; clean = false; named = 0; victim = record { at = At 0; measure = 0 } }
 
 module _ (l : Layout) where
   open Layout l using (N, K, B, S)
@@ -47,20 +46,15 @@ module _ (l : Layout) where
   abbrev pub byStampIn : (ℕ → Record) → (ℕ → Page) → ℕ → ℕ → ℕ → Bool
   byStampIn r x c b i = byStamp l r x c (pageIn l b i)
 
-  -- the tags and stripes of the pages of block b
-  pub record StampsOf (x : ℕ → Page) (b : ℕ) (tags stripes : List ℕ) : Type 0 where
-    pub tag : (i : ℕ) → i < K → TagIs (getD tags i 0) (x (pageIn l b i) .kind) (x (pageIn l b i) .member)
-    pub stripe : (i : ℕ) → i < K → getD stripes i 0 ≡ x (pageIn l b i) .stripe
-
-  -- the offset of chip c's page number, the main one, in the record of stripe j
+  -- the index of chip c's page number, the main one, in the record of stripe j
   unfoldable pub fieldOn : ℕ → ℕ → ℕ
-  fieldOn c j = cond (eqb c (parityChip l j)) 24 (2 * memberOn l j c)
+  fieldOn c j = cond (eqb c (parityChip l j)) 12 (memberOn l j c)
 
   -- the tag of that page
   abbrev pub tagOn : ℕ → ℕ → ℕ
-  tagOn c j = kindOn l c j + 256 * memberByte l c j
+  tagOn c j = tagOf (kindOn l c j) (memberByte l c j)
 
-  -- the same offset for a page of chip c with a tag and stripe j; 255 where the tag is not right or there is no such stripe
+  -- the same index for a page of chip c with a tag and stripe j; 255 where the tag is not right or there is no such stripe
   unfoldable pub fieldOf : ℕ → ℕ → ℕ → ℕ
   fieldOf c tag j = cond (eqb tag (tagOn c j) && ltb j S) (fieldOn c j) 255
 
@@ -68,9 +62,14 @@ module _ (l : Layout) where
   pub record FieldsOf (c : ℕ) (tags stripes fields : List ℕ) : Type 0 where
     pub is : (i : ℕ) → i < K → getD fields i 0 ≡ fieldOf c (getD tags i 0) (getD stripes i 0)
 
-  -- where there is a field, it is one of a record
+  -- where there is a field, it is the parity's or a member's in the record of a stripe
+  pub record FieldFits (j field : ℕ) : Type 0 where
+    pub stripe : field ≢ 255 → j < S
+    pub low : field ≢ 255 → field ≤ 12
+    pub member : field ≢ 255 → field ≢ 12 → field < 6
+
   pub record FieldsFit (stripes fields : List ℕ) : Type 0 where
-    pub inside : (i : ℕ) → i < K → getD fields i 0 ≢ 255 → (getD stripes i 0 < S) × (getD fields i 0 ≤ 24)
+    pub fit : (i : ℕ) → i < K → FieldFits (getD stripes i 0) (getD fields i 0)
 
   -- whether all pages of block b are clean, and whether none is
   unfoldable pub fillOf : (ℕ → Page) → ℕ → Fill
@@ -96,15 +95,14 @@ module _ (l : Layout) where
         }
 
     -- of the blocks below b: all are in order, some block is wholly clean, so many pages are named; of the loose ones the victim has
-    -- fewest named pages, and where there is none, 0 and K stand for it
+    -- fewest named pages
     unfoldable pub chipScan : ℕ → ChipScan
     chipScan b =
         record {
           ordered = allBelow b (orderedBlock l x);
           clean = someBelow b (cleanBlock l x);
           named = countBelow (b * K) (byStamp l r x c);
-          victim = whenFound (leastBelow b loose byStampCount) (λ v. v) 0;
-          fewest = whenFound (leastBelow b loose byStampCount) byStampCount K;
+          victim = leastSoFar loose byStampCount b;
         }
 
   -- of chip c, with the pages y of each chip: the blocks below b; no block of the lost chip, and of one that is not there
@@ -117,10 +115,4 @@ module _ (l : Layout) where
 
   -- with whether the spares are sound
   abbrev pub survey : (ℕ → Record) → (ℕ → ℕ → Page) → Collection → ℕ → Survey
-  survey r y co lost = record { sound = sparesSound l r y co lost; chips = chipScans r y lost B }
-
-  -- what a collection under way asks of its chip, with the chip's pages x
-  unfoldable pub phaseSound : (ℕ → Record) → (ℕ → Page) → Collection → Bool
-  phaseSound r x co =
-      cond (eqb (co .phase) 1) (phase1Sound l r (co .chip) (co .destination))
-      (cond (eqb (co .phase) 2) (phase2Sound l r x (co .chip) (co .victim) (co .destination)) true)
+  survey r y co lost = record { sound = sparesSound l r y co (isLost lost); chips = chipScans r y lost B }

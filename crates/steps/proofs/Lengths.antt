@@ -1,7 +1,8 @@
--- How long lists of steps are.
+-- How long lists of steps are, and lists of the same steps.
 use Prim.Native.Nat.{ℕ, zero, suc, _*_, _≤_, _<_}
-use native.Mathlib.Nat.{suc-mul, le-refl}
+use native.Mathlib.Nat.{suc-mul, le-refl, le-step, lt-suc-self}
 use native.Mathlib.Omega.{arith}
+use mathlib.Core.Path.{_≡_, refl}
 use mathlib.Core.List.{List}
 use lib.ListN.{length, length-append}
 use Rattle.layout.specs.Layout.{Layout}
@@ -24,3 +25,9 @@ length-then-below l k zero f s h = omega arith
 length-then-below l k (suc n) f s h =
     let first = length-then-below l k n f s h in
     rw (length-append, suc-mul) (omega (arith, h n (applyAll l (thenBelow l n f s) s)))
+
+-- lists that are the same one by one are the same end to end
+pub below-cong : (n : ℕ) (f g : ℕ → List Step) → ((i : ℕ) → i < n → f i ≡ g i) → stepsBelow n f ≡ stepsBelow n g
+unfolding stepsBelow
+below-cong zero f g h = refl
+below-cong (suc n) f g h = rw (below-cong n f g (λ i b. h i (le-step b)), h n (lt-suc-self n))

@@ -15,8 +15,10 @@ use Rattle.steps.specs.declared.Progress.{Progress}
 use Rattle.steps.specs.Allowance.{Ran, images}
 use Rattle.steps.proofs.Prefixes.{leads-weaken}
 use Rattle.steps.proofs.Allowances.{ran-whole}
-use Rattle.rules.specs.Commit.{recordCost, cheapest, commitSteps}
-use Rattle.rules.specs.Write.{commitOwed, owedSteps, lowestFreeSlot}
+use Rattle.rules.specs.Costs.{recordCost, cheapest}
+use Rattle.rules.specs.Commit.{commitSteps}
+use Rattle.rules.specs.Partial.{lowestFreeSlot}
+use Rattle.rules.specs.Write.{commitOwed, owedSteps}
 use Rattle.rules.proofs.Soundness.Statements.{Usable, Sound}
 use Rattle.rules.proofs.Data.Carries.{Carries}
 use Rattle.rules.proofs.Space.Room.{free-slot}

@@ -21,8 +21,9 @@ ghost use Rattle.ranges.specs.Look.{countBelow};
 ghost use Rattle.layout.specs.Layout.{layoutOf};
 ghost use Rattle.layout.specs.Rotation.{memberChip};
 ghost use Rattle.layout.specs.Record.{recordAt, slotted as slottedAt};
-ghost use Rattle.rules.specs.Place.{placed};
-ghost use Rattle.rules.specs.Write.{commitOwed, owedSteps, lowestFreeSlot, writeAt, writeMember};
+ghost use Rattle.rules.specs.Room.{placed};
+ghost use Rattle.rules.specs.Partial.{lowestFreeSlot, writeAt};
+ghost use Rattle.rules.specs.Write.{commitOwed, owedSteps, writeMember};
 ghost use Rattle.steps.specs.Allowance.{Sane, Ran, images};
 ghost use Rattle.codec.specs.Fit.{RecordsFit, SlotsFit};
 ghost use Rattle.names.specs.Checked.{Settled};
@@ -109,7 +110,7 @@ fn place_member(
         r (images (now (chips .entry)) (now (records .entry)) (now (slots .entry))) (images (now (chips .exit)) (now (records .exit)) (now (slots .exit))) ⌝ }
 {
     let c = member_chip(g, j, m);
-    let run = make_room(chips, records, g, c, v, p);
+    let run = make_room(chips, records, slots, g, c, v, p);
     // past a cut there may be no place yet
     if run.cut {
         return run;
@@ -141,7 +142,7 @@ pub fn write_member(
 {
     let chip = member_chip(g, j, m);
     if !is_owed(records, g, j, seen.slotted) {
-        let v = victim_in(g, scans[chip]);
+        let v = victim_in(scans[chip]);
         let free = seen.free;
         return place_member(chips, records, slots, g, j, m, bytes, v, free, p);
     }

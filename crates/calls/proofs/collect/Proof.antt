@@ -44,7 +44,7 @@ collect-chip-requires : tie.Need-collect-chip-requires
 collect-chip-requires c κs =
     let (h, fits) = free-ready _ _ _ _ (c .before .before .before .before .before .before .before .before .before .before .before .before .before .settled-look .ensures) (passed (c .before .before .before .before .before .before .before .before .before)) in
     let low = leb-true _ _ fits in
-    (h .store .settled, low, c .start .ensures .1, sym (c .before .before .before .before .before .before .victim-in .ensures ∙ h .known .at _ low) ∙ c .before .before .before .before .v .given .1)
+    (h .store .settled, low, c .start .ensures .1, sym (c .before .before .before .before .before .before .victim-in .ensures ∙ h .known .at _ low) ∙ c .before .before .before .before .v .given .1, h .store .slots-fit)
 
 returns-2 : tie.Need-returns-2
 returns-2 c =

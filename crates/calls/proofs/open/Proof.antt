@@ -6,7 +6,7 @@ use Rattle.layout.specs.Layout.{layoutOf}
 use Rattle.rules.specs.declared.Check.the-variants.{Passed}
 use Rattle.rules.specs.Refusals.{checked, imagesRows}
 use Rattle.steps.specs.Allowance.{images}
-use Rattle.looks.proofs.Passing.{look-check, images-fit, images-checked}
+use Rattle.looks.proofs.Passing.{look-check, images-fit, images-checked, at-no-chip}
 use Rattle.calls.proofs.Results.{open-refused, open-nothing, open-finished}
 use Rattle.calls.proofs.open.Statement.{statement}
 use Rattle.calls.proofs.open.Tie as tie
@@ -21,7 +21,7 @@ returns-2 : tie.Need-returns-2
 returns-2 c = rw (c .answer .ensures) (open-nothing _ _ _ _ (passed (c .before .before .before)) (c .before .before .if1 .taken) (c .before .start .ensures .0) (c .before .start .ensures .1))
 
 finish-requires : tie.Need-finish-requires
-finish-requires c κs = (images-checked _ _ _ (passed (c .before .before .before .before)) (c .before .before .before .if1 .left), c .start2 .ensures .1)
+finish-requires c κs = (at-no-chip (c .before .before .before .if1 .left) (images-checked _ _ _ (passed (c .before .before .before .before))), c .start2 .ensures .1)
 
 returns-3 : tie.Need-returns-3
 returns-3 c =

@@ -1,4 +1,4 @@
--- Refused by its rows, or what `fetch` brings.
+-- Refused by its rows, or what `read_member` brings.
 use mathlib.Core.Path.{_≡_, sym, _∙_}
 use borrow.Author.Needs.{needs}
 use native.Mathlib.Omega.{arith}
@@ -32,14 +32,14 @@ div-j c = omega (arith, ready (c .before) .ready .fit .within-limits .members-lo
 rem-m : tie.Need-rem-m
 rem-m c = omega (arith, ready (c .before .before) .ready .fit .within-limits .members-low)
 
-fetch-requires : tie.Need-fetch-requires
-fetch-requires c κs =
+read-member-requires : tie.Need-read-member-requires
+read-member-requires c κs =
     let h = ready (c .before .before .before) in
     let p = h .ready in
     (p .fit .fit .chips, p .fit .fit .records, p .fit .fit .slots, h .whole, p .stripe, p .member, p .fit .stripe _ (p .stripe))
 
 returns-2 : tie.Need-returns-2
-returns-2 c = read-done _ _ _ _ _ (passed (c .before .before .before .before .before .before)) (c .before .before .fetch .ensures)
+returns-2 c = read-done _ _ _ _ _ (passed (c .before .before .before .before .before .before)) (c .before .before .read-member .ensures)
 
 pub read-spec : {M : Type 1} → statement M
 read-spec =
@@ -52,6 +52,6 @@ read-spec =
     (λ c. search needs)
     div-j
     rem-m
-    fetch-requires
+    read-member-requires
     (λ c. search needs)
     returns-2)

@@ -11,15 +11,15 @@ use Rattle.collect.proofs.collect_chip.Statement.{statement}
 use Rattle.collect.proofs.collect_chip.Tie as tie
 
 clean-block-on-requires : tie.Need-clean-block-on-requires
-clean-block-on-requires c κs = ordered (c .before .before .before .pre .0 .checked) (c .before .before .before .pre .1)
+clean-block-on-requires c κs = ordered (c .before .before .before .before .pre .0 .checked) (c .before .before .before .before .pre .1)
 
 enum-known-d : tie.Need-enum-known-d
 enum-known-d c = search needs
 
 copy-block-requires : tie.Need-copy-block-requires
 copy-block-requires c κs =
-    let h = c .before .before .before .before .before .before .before .before .before .pre in
-    (h .0, h .1, h .2, h .3, sym (c .before .before .before .before .before .clean-block-on .ensures) ∙ c .before .before .before .d .given .1)
+    let h = c .before .before .before .before .before .before .before .before .before .before .pre in
+    (h .0, h .1, h .2, h .3, sym (c .before .before .before .before .before .clean-block-on .ensures) ∙ c .before .before .before .d .given .1, h .4)
 
 same-length : tie.Need-same-length
 same-length c = search needs
@@ -29,12 +29,12 @@ same-length-2 c = search needs
 
 returns : tie.Need-returns
 returns c =
-    let s = c .before .before .before .before .before .before .before .before .before .before .before .before .before .before .before in
+    let s = c .before .before .before .before .before .before .before .before .before .before .before .before .before .before .before .before in
     collect-cut (s .pre .0) (s .pre .1) (s .pre .3) (sym (c .before .before .before .before .before .before .before .before .before .before .before .clean-block-on .ensures) ∙ c .before .before .before .before .before .before .before .before .before .d .given .1) (c .before .before .before .before .before .copy-block .ensures) (c .if1 .taken)
 
 finish-requires : tie.Need-finish-requires
 finish-requires c κs =
-    let s = c .before .before .before .before .before .before .before .before .before .before .before .before .before .before .before .before .before in
+    let s = c .before .before .before .before .before .before .before .before .before .before .before .before .before .before .before .before .before .before in
     let (zs, e) = some-slots (layoutOf (s .args .g)) in
     let copied = c .before .before .before .before .before .before .before .copy-block .ensures in (
       copied-checked (s .pre .0) (s .pre .1) (s .pre .3) (sym (c .before .before .before .before .before .before .before .before .before .before .before .before .before .clean-block-on .ensures) ∙ c .before .before .before .before .before .before .before .before .before .before .before .d .given .1) copied (c .before .before .if1 .left),
@@ -52,7 +52,7 @@ same-length-4 c = search needs
 
 returns-2 : tie.Need-returns-2
 returns-2 c =
-    let s = c .before .before .before .before .before .before .before .before .before .before .before .before .before .before .before .before .before .before .before .before .before .before in
+    let s = c .before .before .before .before .before .before .before .before .before .before .before .before .before .before .before .before .before .before .before .before .before .before .before in
     collect-ran (s .pre .0) (s .pre .1) (s .pre .3) (sym (c .before .before .before .before .before .before .before .before .before .before .before .before .before .before .before .before .before .before .clean-block-on .ensures) ∙ c .before .before .before .before .before .before .before .before .before .before .before .before .before .before .before .before .d .given .1) (c .before .before .before .before .before .before .before .before .before .before .before .before .copy-block .ensures) (c .before .before .before .before .finish .ensures)
 
 same-length-5 : tie.Need-same-length-5
@@ -60,7 +60,7 @@ same-length-5 c = search needs
 
 returns-3 : tie.Need-returns-3
 returns-3 c =
-    let s = c .before .before .before .before .before .before in
+    let s = c .before .before .before .before .before .before .before in
     let a = s .args in
     let l = layoutOf (a .g) in
     λ zs e.

@@ -10,7 +10,7 @@ use Rattle.collect.proofs.make_room.Statement.{statement}
 use Rattle.collect.proofs.make_room.Tie as tie
 
 place-on-requires : tie.Need-place-on-requires
-place-on-requires c κs = ordered (c .before .before .before .pre .0 .checked) (c .before .before .before .pre .1)
+place-on-requires c κs = ordered (c .before .before .before .before .pre .0 .checked) (c .before .before .before .before .pre .1)
 
 enum-told : tie.Need-enum-told
 enum-told c = search needs
@@ -20,7 +20,7 @@ same-length c = search needs
 
 returns : tie.Need-returns
 returns c =
-    let s = c .before .before .before .before .before .before in
+    let s = c .before .before .before .before .before .before .before in
     let a = s .args in
     let l = layoutOf (a .g) in
     λ zs e.
@@ -35,9 +35,9 @@ enum-known-v c = search needs
 
 collect-chip-requires : tie.Need-collect-chip-requires
 collect-chip-requires c κs =
-    let h = c .before .before .before .before .before .before .before .before .before .before .before .pre in
+    let h = c .before .before .before .before .before .before .before .before .before .before .before .before .pre in
     let nowhere = sym (c .before .before .before .before .before .before .before .place-on .ensures) ∙ c .before .before .before .before .before .enum-told2 .given .1 in
-    (h .0, h .1, h .3, sym (h .2 .is nowhere) ∙ c .before .before .before .v .given .1)
+    (h .0, h .1, h .3, sym (h .2 .is nowhere) ∙ c .before .before .before .v .given .1, h .4)
 
 enum-told-3 : tie.Need-enum-told-3
 enum-told-3 c = search needs
@@ -50,7 +50,7 @@ same-length-3 c = search needs
 
 returns-2 : tie.Need-returns-2
 returns-2 c =
-    let a = c .before .before .before .before .before .before .before .before .before .before .before .before .before .before .before .before .args in
+    let a = c .before .before .before .before .before .before .before .before .before .before .before .before .before .before .before .before .before .args in
     λ zs e.
     rw (room-collects (layoutOf (a .g)) (images (now (a .chips)) (now (a .records)) zs) (a .c) (sym (c .before .before .before .before .before .before .before .before .before .before .before .before .place-on .ensures) ∙ c .before .before .before .before .before .before .before .before .before .before .enum-told2 .given .1))
     (c .before .before .before .before .collect-chip .ensures zs e)
@@ -60,7 +60,7 @@ same-length-4 c = search needs
 
 returns-3 : tie.Need-returns-3
 returns-3 c =
-    let s = c .before .before .before .before .before .before .before .before in
+    let s = c .before .before .before .before .before .before .before .before .before in
     let a = s .args in
     let l = layoutOf (a .g) in
     let nowhere = sym (c .before .before .before .before .place-on .ensures) ∙ c .before .before .enum-told2 .given .1 in

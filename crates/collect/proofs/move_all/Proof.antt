@@ -5,7 +5,7 @@ use native.Mathlib.Omega.{arith}
 use mathlib.Core.Path.{_≡_, sym, _∙_}
 use denote.Ref.{now}
 use borrow.Author.Needs.{needs}
-use Rattle.layout.specs.Layout.{layoutOf}
+use Rattle.layout.specs.Layout.{layoutOf, noChip}
 use Rattle.layout.specs.Collection.{collectionAt}
 use Rattle.names.specs.Checked.{Checked}
 use Rattle.collect.proofs.Moves.{Carried, carried-none, carried-cut, carried-sound, carried-more}
@@ -38,7 +38,7 @@ going : (c : tie.Else1 Inv-loop μ-loop)
     → let t = c .before .before in
     let a = t .before .before .before .args in
     let l = layoutOf (a .g) in
-    Checked (a .g) (now (a .chips)) (t .loop .records) × (collectionAt l (t .loop .records) ≡ collectionAt l (now (a .records)))
+    Checked (a .g) noChip (now (a .chips)) (t .loop .records) × (collectionAt l (t .loop .records) ≡ collectionAt l (now (a .records)))
 going c =
     let t = c .before .before in
     let s = t .before .before .before in

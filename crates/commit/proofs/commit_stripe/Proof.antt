@@ -4,7 +4,8 @@ use mathlib.Core.Path.{refl, sym, _∙_}
 use denote.Ref.{now}
 use borrow.Author.Needs.{needs}
 use Rattle.layout.specs.Layout.{layoutOf}
-use Rattle.rules.specs.Commit.{commitAt, commitSteps}
+use Rattle.rules.specs.Parity.{commitAt}
+use Rattle.rules.specs.Commit.{commitSteps}
 use Rattle.collect.proofs.Rooms.{ordered}
 use Rattle.commit.proofs.Placing.{seven, known-victim, record-passes, place-fits, room-settled, room-slotted, placed-cut, placed-at, placed-nowhere, placed-on}
 use Rattle.commit.proofs.commit_stripe.Statement.{statement}
@@ -26,7 +27,7 @@ make-room-requires : tie.Need-make-room-requires
 make-room-requires c κs =
     let h = c .before .before .before .before .before .before .before .before .pre in
     let on = c .before .before .before .before .parity-chip .ensures in
-    (h .0, on .1, known-victim (h .5) (on .1) refl (c .victim-in .ensures), h .3)
+    (h .0, on .1, known-victim (h .5) (on .1) refl (c .victim-in .ensures), h .3, h .1)
 
 same-length : tie.Need-same-length
 same-length c = search needs

@@ -9,26 +9,26 @@ use denote.Ref.{now}
 use borrow.Author.Needs.{needs}
 use Rattle.layout.specs.Layout.{layoutOf, none, pages}
 use Rattle.layout.proofs.Pages.{page-in-fits}
-use Rattle.copying.proofs.Copies.{Copying, copying-none, copying-skips, copying-more, copying-cut, copying-all, copying-room, copying-stamps, copying-still, Begun, chosen}
+use Rattle.copying.proofs.Copies.{Copying, copying-none, copying-skips, copying-more, copying-cut, copying-all, copying-room, copying-stamps, copying-page, copying-still, Begun, chosen}
 use Rattle.names.proofs.Statements.{some-slots, within}
 use Rattle.copying.proofs.copy_block.Statement.{statement}
 use Rattle.copying.proofs.copy_block.Tie as tie
 
 abbrev Inv-loop : tie.InvT-loop
-Inv-loop chips₀ records g c v d k run₀ copies₀ i₀ chips run copies i = Copying g records chips₀ c v d run₀ i copies run chips
+Inv-loop chips₀ records slots g c v d k run₀ copies₀ i₀ chips run copies i = Copying g records chips₀ c v d run₀ i copies run chips
 
 abbrev μ-loop : tie.MeasureT-loop
-μ-loop chips₀ records g c v d k run₀ copies₀ i₀ chips run copies i = g .k - i
+μ-loop chips₀ records slots g c v d k run₀ copies₀ i₀ chips run copies i = g .k - i
 
 store-phase-requires : tie.Need-store-phase-requires Inv-loop μ-loop
 store-phase-requires c κs =
-    let s = c .before .before .before in
+    let s = c .before .before .before .before in
     let h = s .pre .0 .checked in
     (h .records-pass .fit, omega arith, omega (arith, s .pre .1, within _ _ _ h .members-high), s .pre .2)
 
 -- at the loop
 abbrev start : tie.After-slice-known3 Inv-loop μ-loop → tie.Start Inv-loop μ-loop
-start c = c .before .before .before .before .before .before
+start c = c .before .before .before .before .before .before .before
 
 begun : (c : tie.After-slice-known3 Inv-loop μ-loop)
     → let a = start c .args in
@@ -58,7 +58,7 @@ blocks c =
 
 -- page i of the victim, and the place that its copy would have
 place : (c : tie.Else1 Inv-loop μ-loop)
-    → let s = c .before .before .before .before .before .before .before .before .before in
+    → let s = start (c .before .before .before) in
     let t = c .before .before in
     (s .args .v * s .args .g .k + t .loop .i < pages (layoutOf (s .args .g)))
     × (s .args .d * s .args .g .k + t .loop .copies < pages (layoutOf (s .args .g)))
@@ -89,21 +89,32 @@ named-at-requires c κs =
     (copying-stamps (begun (t .before)) zs e (t .loop .inv) (w .if1 .left), place w .0)
 
 mul-copy-page : tie.Need-mul-copy-page Inv-loop μ-loop
-mul-copy-page c = omega (arith, place (c .before .before .before .before .before))
+mul-copy-page c = omega (arith, place (c .before .before .before .before .before .before))
 
 add-copy-page : tie.Need-add-copy-page Inv-loop μ-loop
-add-copy-page c = omega (arith, place (c .before .before .before .before .before))
+add-copy-page c = omega (arith, place (c .before .before .before .before .before .before))
 
 copy-page-requires : tie.Need-copy-page-requires Inv-loop μ-loop
 copy-page-requires c κs =
-    let w = c .before .before .before .before .before in
+    let w = c .before .before .before .before .before .before in
     let t = w .before .before in
     let s = start (t .before) in
-    let h = s .pre .0 .checked .chips-fit in
-    (record { limited = h .limited; long = t .loop .inv .same ∙ h .long }, s .pre .1, place w .0, place w .1, t .loop .inv .sane)
+    let l = layoutOf (s .args .g) in
+    let h = s .pre .0 .checked in
+    let (zs, e) = some-slots l in
+    let named-too = sym (c .before .before .before .named-at .ensures) ∙ c .before .before .if2 .taken in (
+      record { limited = h .chips-fit .limited; long = t .loop .inv .same ∙ h .chips-fit .long },
+      record { limited = h .chips-fit .limited; long = t .before .before .before .store-phase .kept .0 ∙ h .records-pass .fit .long },
+      s .pre .5,
+      s .pre .1,
+      place w .0,
+      place w .1,
+      t .loop .inv .sane,
+      copying-page (begun (t .before)) zs e (t .loop .inv) (w .if1 .left) (t .loop .i) (w .before .loop-test .taken) named-too,
+    )
 
 add-copies : tie.Need-add-copies Inv-loop μ-loop
-add-copies c = omega (arith, place (c .before .before .before .before .before .before .before .before))
+add-copies c = omega (arith, place (c .before .before .before .before .before .before .before .before .before))
 
 add-i : tie.Need-add-i Inv-loop μ-loop
 add-i c = omega (arith, place (c .before .before .before .before))
@@ -121,8 +132,8 @@ loop-again c =
     let told = c .before .named-at .ensures in
     ⊎-elim
     (λ z.
-    rw (z .5, z .6, z .7)
-    (copying-more (t .loop .inv) low (sym told ∙ z .0 .taken) (copying-still (begun k) zs e (t .loop .inv) (w .if1 .left) (t .loop .i) low) (z .2 .kept .0) (z .2 .ensures)))
+    rw (z .6, z .7, z .8)
+    (copying-more (t .loop .inv) low (sym told ∙ z .0 .taken) (copying-still (begun k) zs e (t .loop .inv) (w .if1 .left) (t .loop .i) low) (z .3 .kept .0) (z .3 .ensures)))
     (λ z. rw (z .1, z .2, z .3) (copying-skips (t .loop .inv) low (sym told ∙ z .0 .left)))
     (c .if2 .came)
 

@@ -4,7 +4,7 @@ use mathlib.Core.Path.{sym, _∙_}
 use borrow.Author.Needs.{needs}
 use Rattle.layout.specs.Layout.{layoutOf}
 use Rattle.layout.proofs.Limits.{within}
-use Rattle.rules.specs.Commit.{costOf}
+use Rattle.rules.specs.Costs.{costOf}
 use Rattle.costs.proofs.cost_of.Statement.{statement}
 use Rattle.costs.proofs.cost_of.Tie as tie
 

@@ -9,7 +9,7 @@ use Rattle.ranges.proofs.Counts.{count-start, count-le, count-cong}
 use Rattle.ranges.proofs.Tallies.{count-more}
 use Rattle.layout.specs.Layout.{layoutOf}
 use Rattle.layout.specs.Record.{bit}
-use Rattle.rules.specs.Commit.{setBits}
+use Rattle.rules.specs.Costs.{setBits}
 use Rattle.layout.proofs.Limits.{within}
 use Rattle.layout.proofs.Bits.{testBit}
 use Rattle.costs.proofs.set_bits.Statement.{statement}

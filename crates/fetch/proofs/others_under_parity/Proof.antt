@@ -1,23 +1,15 @@
--- Inside the bitmap the old numbers are chosen, and outside the current ones, without that of member m.
+-- The numbers under the parity, without that of member m.
 use borrow.Author.Needs.{needs}
-use Rattle.fetch.proofs.Others.{under-chosen}
+use Rattle.layout.specs.Layout.{layoutOf}
+use Rattle.codec.specs.Views.{recordFrom}
+use Rattle.fetch.proofs.Others.{under-without}
 use Rattle.fetch.proofs.others_under_parity.Statement.{statement}
 use Rattle.fetch.proofs.others_under_parity.Tie as tie
 
-mul-current : tie.Need-mul-current
-mul-current c = search needs
-
-array-write-current : tie.Need-array-write-current
-array-write-current c = search needs
-
-chosen-requires : tie.Need-chosen-requires
-chosen-requires c κs = search needs
-
 returns : tie.Need-returns
 returns c g =
-    let s = c .before .before .before in
-    under-chosen g (s .args .e) (s .args .m) (search needs) (s .pre) (c .chosen .result) (c .chosen .ensures g)
+    let s = c .before in
+    under-without g (recordFrom (layoutOf g) (s .args .e)) (s .args .m) (s .pre) (c .under-parity .result) (search needs) (c .under-parity .ensures g)
 
 pub others-under-parity-spec : {M : Type 1} → statement M
-others-under-parity-spec =
-    tie.close (tie.spec mul-current array-write-current chosen-requires returns)
+others-under-parity-spec = tie.close (tie.spec (λ c κs. search needs) (λ c. search needs) (λ c. search needs) returns)

@@ -1,134 +1,129 @@
--- The front of the work page is zeros; either way the rebuilt page comes back there, and is copied out.
-use Prim.Native.Nat.{_-_, _≤_}
+-- Each match is the definition's, and the function that is called there holds to its case. A sound record has what each needs.
+use Prim.Native.Nat.{_<_}
 use native.Mathlib.Omega.{arith}
-use mathlib.Core.Path.{_≡_, sym, _∙_}
-use mathlib.Core.Logic.{⊎-elim}
-use lib.ListN.{length, take}
+use mathlib.Core.Path.{_≡_, refl, sym, ap, _∙_}
+use denote.Ref.{now}
 use borrow.Author.Needs.{needs}
+use Rattle.bytes.specs.Xor.{_⊕_}
 use Rattle.layout.specs.Layout.{layoutOf}
-use Rattle.layout.specs.Record.{bit}
 use Rattle.layout.specs.Page.{pageAt}
+use Rattle.layout.specs.Record.{bit}
 use Rattle.layout.specs.Images.{slotAt}
 use Rattle.layout.proofs.Limits.{within}
-use Rattle.rules.specs.Read.{Fetched, rebuilt}
+use Rattle.rules.specs.Gather.{gathered, gatheredReads}
+use Rattle.rules.specs.Fetch.{parityAnew}
 use Rattle.rules.proofs.Soundness.RecordChecks.{record-sound}
-use Rattle.bytes.proofs.Work.{front-zeros}
 use Rattle.codec.specs.Views.{recordFrom}
-use Rattle.fetch.proofs.Pages.{front-fetched}
+use Rattle.fetch.proofs.Others.{under-fit, current-fits, old-fits, current-there, old-there}
 use Rattle.fetch.proofs.rebuild.Statement.{statement}
 use Rattle.fetch.proofs.rebuild.Tie as tie
 
-bit-of-requires : tie.Need-bit-of-requires
-bit-of-requires c κs =
-    let start = c .before .before .before in
-    let w = within (layoutOf (start .args .g)) (start .pre .0 .limited) in
-    omega arith
-
 -- what the function was called with
-abbrev start : tie.After-bit-of → tie.Start
-start c = c .before .before .before .before
+abbrev current-start : tie.After-role → tie.Start
+current-start c = c .before .before .before .before .before
+
+abbrev old-start : tie.After-role2 → tie.Start
+old-start c = c .before .before .before .before .before
+
+-- a member of the N is one of six
+current : (c : tie.After-role) → (c .role .given .0 .0 < current-start c .args .g .n) × (c .role .given .0 .0 < 6)
+current c =
+    let s = current-start c in
+    let low = current-fits (s .args .g) (c .role .given .1) (s .pre .3) in
+    (low, omega (arith, low, within (layoutOf (s .args .g)) (s .pre .0 .limited) .members-high))
+
+old : (c : tie.After-role2) → (c .role2 .given .0 .0 < old-start c .args .g .n) × (c .role2 .given .0 .0 < 6)
+old c =
+    let s = old-start c in
+    let low = old-fits (s .args .g) (c .role2 .given .1) (s .pre .3) in
+    (low, omega (arith, low, within (layoutOf (s .args .g)) (s .pre .0 .limited) .members-high))
 
 -- the test is that of the record's bit
-bit-told : (c : tie.After-bit-of) → bit (recordFrom (layoutOf (start c .args .g)) (start c .args .e)) (start c .args .m) ≡ c .bit-of .result
+bit-told : (c : tie.After-bit-of) → let k = c .before .before in bit (recordFrom (layoutOf (current-start k .args .g)) (current-start k .args .e)) (k .role .given .0 .0) ≡ c .bit-of .result
 unfolding bit recordFrom
 bit-told c = sym (c .bit-of .ensures)
 
--- the page fits into the work page
-narrow : (c : tie.After-bit-of) → start c .args .g .w ≤ 4096
-narrow c = within (layoutOf (start c .args .g)) (start c .pre .0 .limited) .bytes-high
-
-sub-through-partial : tie.Need-sub-through-partial
-sub-through-partial c = search needs
-
-part-work-start : tie.Need-part-work-start
-part-work-start c = search needs
-
-part-work-end : tie.Need-part-work-end
-part-work-end c = narrow (c .before)
+bit-of-requires : tie.Need-bit-of-requires
+bit-of-requires c κs = let h = current (c .before) in omega (arith, h .1)
 
 through-partial-requires : tie.Need-through-partial-requires
 through-partial-requires c κs =
-    let b = c .before .before in
-    let s = start b in
-    (s .pre .0, s .pre .1, front-zeros (s .args .g .w) 4096 (narrow b), s .pre .3, s .pre .4, bit-told b ∙ c .before .if1 .taken)
+    let s = current-start (c .before .before .before .before) in
+    (s .pre .0, s .pre .1, s .pre .2, current (c .before .before .before .before) .0, s .pre .4, bit-told (c .before .before) ∙ c .before .if1 .taken)
 
-sub-through-parity : tie.Need-sub-through-parity
-sub-through-parity c = search needs
-
-part-work-start-2 : tie.Need-part-work-start-2
-part-work-start-2 c = search needs
-
-part-work-end-2 : tie.Need-part-work-end-2
-part-work-end-2 c = narrow (c .before)
+returns : tie.Need-returns
+returns c =
+    rw (c .before .before .before .before .before .before .before .role .given .1, bit-told (c .before .before .before .before .before) ∙ c .before .before .before .before .if1 .taken) (c .before .before .through-partial .ensures)
 
 through-parity-requires : tie.Need-through-parity-requires
 unfolding recordFrom
 through-parity-requires c κs =
-    let b = c .before .before in
-    let s = start b in
+    let k = c .before .before .before .before in
+    let s = current-start k in
     let l = layoutOf (s .args .g) in
-    let w = within l (s .pre .0 .limited) in
-    let member = record-sound l (recordFrom l (s .args .e)) (s .pre .4) .member (s .args .m) (omega arith) in (
-      s .pre .0,
-      front-zeros (s .args .g .w) 4096 (narrow b),
-      s .pre .3,
-      s .pre .4,
-      member .parity-under-current (s .pre .5) (bit-told b ∙ c .before .if1 .left),
-    )
+    let member = record-sound l (recordFrom l (s .args .e)) (s .pre .4) .member (k .role .given .0 .0) (current k .1) in
+    (s .pre .0, s .pre .2, current k .0, s .pre .4, member .parity-under-current (current-there l (recordFrom l (s .args .e)) (k .role .given .1) (s .pre .5)) (bit-told (c .before .before) ∙ c .before .if1 .left))
 
--- the page that is to be rebuilt
-abbrev wanted : tie.After-bit-of → Fetched
-wanted c =
-    let a = start c .args in
-    let l = layoutOf (a .g) in
-    rebuilt l (pageAt l (a .chips .now)) (slotAt l (a .slots .now)) (a .j) (a .m) (recordFrom l (a .e))
+returns-2 : tie.Need-returns-2
+returns-2 c =
+    let s = current-start (c .before .before .before .before .before .before .before) in
+    rw (c .before .before .before .before .before .before .before .role .given .1, bit-told (c .before .before .before .before .before) ∙ c .before .before .before .before .if1 .left) (c .before .before .through-parity .ensures (slotAt (layoutOf (s .args .g)) (now (s .args .slots))))
 
--- either way it is the front of the work page
-joined : (c : tie.Joined1)
-    → (start (c .before) .args .g .w ≤ length (c .if1 .work))
-    × (record { bytes = take (start (c .before) .args .g .w - 0) (c .if1 .work); reads = c .if1 .reads } ≡ wanted (c .before))
-joined c =
-    let b = c .before in
-    let w = start b .args .g .w in
-    ⊎-elim
-    (λ e. rw (bit-told b ∙ e .0 .taken) (front-fetched w 4096 (narrow b) (e .2 .kept .0) (e .4) (e .5) (e .2 .ensures)))
-    (λ e. rw (bit-told b ∙ e .0 .left) (front-fetched w 4096 (narrow b) (e .2 .kept .0) (e .4) (e .5) (e .2 .ensures)))
-    (c .if1 .came)
+through-parity-requires-2 : tie.Need-through-parity-requires-2
+unfolding recordFrom
+through-parity-requires-2 c κs =
+    let k = c .before .before in
+    let s = old-start k in
+    let l = layoutOf (s .args .g) in
+    let member = record-sound l (recordFrom l (s .args .e)) (s .pre .4) .member (k .role2 .given .0 .0) (old k .1) in
+    (s .pre .0, s .pre .2, old k .0, s .pre .4, member .parity-under-old (old-there l (recordFrom l (s .args .e)) (k .role2 .given .1) (s .pre .5)))
 
-sub-copy : tie.Need-sub-copy
-sub-copy c = search needs
+returns-3 : tie.Need-returns-3
+returns-3 c =
+    let s = old-start (c .before .before .before .before .before) in
+    rw (c .before .before .before .before .before .role2 .given .1) (c .before .before .through-parity2 .ensures (slotAt (layoutOf (s .args .g)) (now (s .args .slots))))
 
-part-copy-start : tie.Need-part-copy-start
-part-copy-start c = search needs
+gather-requires : tie.Need-gather-requires
+gather-requires c κs =
+    let s = c .before .before .before .before .before .before .before in
+    let g = s .args .g in
+    let l = layoutOf g in
+    let r = recordFrom l (s .args .e) in
+    (s .pre .0, s .pre .2, under-fit g (within l (s .pre .0 .limited)) r (record-sound l r (s .pre .4)) (c .under-parity .result) (c .under-parity .ensures g))
 
-part-copy-end : tie.Need-part-copy-end
-part-copy-end c = joined (c .before .before) .0
-
-copy-requires : tie.Need-copy-requires
-copy-requires c κs = search needs
-
-same-length : tie.Need-same-length
-same-length c = search needs
-
-returns : tie.Need-returns
-returns c = rw (c .before .before .copy .ensures) (joined (c .before .before .before .before .before .before) .1)
+returns-4 : tie.Need-returns-4
+unfolding parityAnew
+returns-4 c =
+    let s = c .before .before .before .before .before .before .before .before .before .before in
+    let l = layoutOf (s .args .g) in
+    let called = c .before .before .gather .ensures in
+    let numbers = c .before .before .before .under-parity .ensures (s .args .g) in
+    rw (c .before .before .before .before .before .enum-told .given .1)
+    (record {
+      bytes = called .0 ∙ ap (λ f. now (s .args .work) ⊕ gathered l (pageAt l (now (s .args .chips))) (s .args .j) f) numbers;
+      reads = called .1 ∙ ap (gatheredReads l) numbers;
+      origin = refl;
+      few = omega (arith, called .2);
+    })
 
 pub rebuild-spec : {M : Type 1} → statement M
 rebuild-spec =
     tie.close
     (tie.spec
+    (λ c. search needs)
     bit-of-requires
-    sub-through-partial
-    part-work-start
-    part-work-end
     through-partial-requires
-    sub-through-parity
-    part-work-start-2
-    part-work-end-2
+    (λ c. search needs)
+    returns
     through-parity-requires
-    sub-copy
-    part-copy-start
-    part-copy-end
-    copy-requires
-    same-length
-    returns)
+    (λ c. search needs)
+    through-parity-requires-2
+    (λ c. search needs)
+    (λ c κs. search needs)
+    gather-requires
+    (λ c. search needs)
+    returns-2
+    (λ c. search needs)
+    returns-3
+    (λ c. search needs)
+    returns-4)

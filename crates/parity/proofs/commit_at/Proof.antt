@@ -10,7 +10,6 @@ use Rattle.layout.specs.Layout.{layoutOf, none}
 use Rattle.layout.proofs.Limits.{Within, within}
 use Rattle.steps.specs.Allowance.{images}
 use Rattle.steps.proofs.Allowances.{ran-append}
-use Rattle.rules.specs.Commit.{parityPage}
 use Rattle.codec.specs.Views.{recordFrom}
 use Rattle.bytes.proofs.Work.{front-long, front-back}
 use Rattle.parity.proofs.Committing.{commit-list}
@@ -21,27 +20,12 @@ use Rattle.parity.proofs.commit_at.Tie as tie
 limits : (s : tie.Start) → Within (layoutOf (s .args .g))
 limits s = within (layoutOf (s .args .g)) (s .pre .0 .limited)
 
-record-at-requires : tie.Need-record-at-requires
-record-at-requires c κs = search needs
-
-sub-new-parity : tie.Need-sub-new-parity
-sub-new-parity c = search needs
-
-part-work-start : tie.Need-part-work-start
-part-work-start c = search needs
-
-part-work-end : tie.Need-part-work-end
-part-work-end c = limits (c .before .before .before .before .before) .bytes-high
-
 new-parity-requires : tie.Need-new-parity-requires
 new-parity-requires c κs =
     let b = c .before .before in
     let s = b .before .before .before .before .before in
     let is = b .record-at .ensures .0 in
     (s .pre .0, s .pre .2, front-long (s .args .g .w) 4096 (limits s .bytes-high), rw is (s .pre .6), rw is (s .pre .7))
-
-parity-chip-requires : tie.Need-parity-chip-requires
-parity-chip-requires c κs = search needs
 
 -- what the function was called with, before the new parity is made
 abbrev start : tie.After-new-parity → tie.Start
@@ -54,15 +38,6 @@ made : (c : tie.After-new-parity)
     let xs = ys ++ drop (w - 0) (replicate 4096 0) in
     (w ≤ length xs) × (take (w - 0) xs ≡ ys)
 made c = front-back (start c .args .g .w) 4096 (limits (start c) .bytes-high) (c .new-parity .kept .0) refl
-
-sub-program : tie.Need-sub-program
-sub-program c = search needs
-
-part-program-start : tie.Need-part-program-start
-part-program-start c = search needs
-
-part-program-end : tie.Need-part-program-end
-part-program-end c = made (c .before .before .before .before) .0
 
 program-requires : tie.Need-program-requires
 program-requires c κs =
@@ -91,12 +66,6 @@ store-record-requires c κs =
     let s = start (p .before .before .before .before .before .before) in
     (s .pre .1, s .pre .3, c .committed .ensures .1, p .program .ensures [] [] .sane)
 
-same-length : tie.Need-same-length
-same-length c = search needs
-
-same-length-2 : tie.Need-same-length-2
-same-length-2 c = search needs
-
 returns : tie.Need-returns
 unfolding none
 returns c =
@@ -110,7 +79,7 @@ returns c =
     let x = now (a .chips) in
     let y = now (a .records) in
     let z = now (a .slots) in
-    rw (commit-list l (a .j) (a .q) (images x y z) (recordFrom l (e .record-at .result)) (recordFrom l (n .committed .result)) (chip .parity-chip .result) (b .new-parity .result) _ (e .record-at .ensures .0) (n .committed .ensures .0 (a .g)) (chip .parity-chip .ensures .0) (b .new-parity .ensures .1) (ap (parityPage l (a .j)) (made b .1 ∙ b .new-parity .ensures .0)))
+    rw (commit-list (a .g) (a .j) (a .q) x y z (e .record-at .result) (e .record-at .ensures .0) (recordFrom l (n .committed .result)) (chip .parity-chip .result) (b .new-parity .result) _ (n .committed .ensures .0 (a .g)) (chip .parity-chip .ensures .0) (made b .1 ∙ b .new-parity .ensures .0) (b .new-parity .ensures .1))
     (ran-append l _ _ _ _ _ (images x y z) (images (p .program .last .0) y z) _ (p .program .ensures y z)
     (c .before .before .store-record .ensures (p .program .last .0) z))
 
@@ -118,18 +87,18 @@ pub commit-at-spec : {M : Type 1} → statement M
 commit-at-spec =
     tie.close
     (tie.spec
-    record-at-requires
-    sub-new-parity
-    part-work-start
-    part-work-end
+    (λ c κs. search needs)
+    (λ c. search needs)
+    (λ c. search needs)
+    (λ c. limits (c .before .before .before .before .before) .bytes-high)
     new-parity-requires
-    parity-chip-requires
-    sub-program
-    part-program-start
-    part-program-end
+    (λ c κs. search needs)
+    (λ c. search needs)
+    (λ c. search needs)
+    (λ c. made (c .before .before .before .before) .0)
     program-requires
     committed-requires
     store-record-requires
-    same-length
-    same-length-2
+    (λ c. search needs)
+    (λ c. search needs)
     returns)

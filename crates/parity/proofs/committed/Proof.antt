@@ -1,7 +1,7 @@
 -- The record is that of the definition, and its fields are small.
 use native.Mathlib.Omega.{arith}
 use Rattle.layout.specs.Layout.{none}
-use Rattle.rules.specs.Commit.{committed}
+use Rattle.rules.specs.Parity.{committed}
 use Rattle.codec.specs.Views.{recordFrom}
 use Rattle.parity.proofs.Committing.{no-olds, same-small}
 use Rattle.parity.proofs.committed.Statement.{statement}

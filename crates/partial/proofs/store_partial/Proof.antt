@@ -12,7 +12,7 @@ use Rattle.layout.specs.Record.{recordAt}
 use Rattle.layout.proofs.Limits.{within}
 use Rattle.steps.specs.Allowance.{images}
 use Rattle.steps.proofs.Allowances.{ran-none, ran-append}
-use Rattle.rules.specs.Write.{lowestFreeSlot}
+use Rattle.rules.specs.Partial.{lowestFreeSlot}
 use Rattle.bytes.proofs.Work.{front-long, front-back}
 use Rattle.partial.proofs.Slots.{free-fits}
 use Rattle.partial.proofs.Steps.{steps-none, steps-found}
@@ -104,12 +104,12 @@ returns c =
     let l = layoutOf (a .g) in
     let x = now (a .chips) in
     let r = now (a .records) in
-    let v = images x r (now (a .slots)) in
+    let y = now (a .slots) in
     let z = f .store-slot .last .0 in
     let last = c .before .before .store-record in
-    rw (steps-found l (a .j) (a .m) (now (a .bytes)) (a .q) v (i .free .given .0 .0) (found i) (e .record-at .ensures .0)
+    rw (steps-found (a .g) (a .j) (a .m) (now (a .bytes)) (a .q) x r y (e .record-at .result) (e .record-at .ensures .0) (i .free .given .0 .0) (found i)
     (back n .1 ∙ n .new-partial .ensures .0) (n .new-partial .ensures .1) (c .before .before .before .written .ensures .0 (a .g)))
-    (ran-append l (a .p) (f .store-slot .result) (last .result) _ _ v (images x r z) _ (f .store-slot .ensures x r) (last .ensures x z))
+    (ran-append l (a .p) (f .store-slot .result) (last .result) _ _ (images x r y) (images x r z) _ (f .store-slot .ensures x r) (last .ensures x z))
 
 returns-2 : tie.Need-returns-2
 returns-2 c =
@@ -117,7 +117,7 @@ returns-2 c =
     let a = s .args in
     let l = layoutOf (a .g) in
     let v = images (now (a .chips)) (now (a .records)) (now (a .slots)) in
-    rw (steps-none l (a .j) (a .m) (now (a .bytes)) (a .q) v (sym (s .pre .9) ∙ c .enum-told .given .1)) (ran-none l (a .p) v (s .pre .8))
+    rw (steps-none (a .g) (a .j) (a .m) (now (a .bytes)) (a .q) (now (a .chips)) (now (a .records)) (now (a .slots)) (sym (s .pre .9) ∙ c .enum-told .given .1)) (ran-none l (a .p) v (s .pre .8))
 
 pub store-partial-spec : {M : Type 1} → statement M
 store-partial-spec =

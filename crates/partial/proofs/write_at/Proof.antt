@@ -10,7 +10,7 @@ use Rattle.steps.specs.Store.{program}
 use Rattle.steps.specs.Steps.{plain}
 use Rattle.steps.specs.Allowance.{images}
 use Rattle.steps.proofs.Allowances.{ran-then}
-use Rattle.rules.specs.Write.{dataPage, slotSteps, writeAt}
+use Rattle.rules.specs.Partial.{dataPage, slotSteps, writeAt}
 use Rattle.partial.proofs.write_at.Statement.{statement}
 use Rattle.partial.proofs.write_at.Tie as tie
 

@@ -9,30 +9,6 @@ use Rattle.partial.proofs.Writing.{written-again, written-first}
 use Rattle.partial.proofs.written.Statement.{statement}
 use Rattle.partial.proofs.written.Tie as tie
 
-bit-of-requires : tie.Need-bit-of-requires
-bit-of-requires c κs = omega arith
-
-mul-next : tie.Need-mul-next
-mul-next c = search needs
-
-element-copy-out-next : tie.Need-element-copy-out-next
-element-copy-out-next c = search needs
-
-mul-next-2 : tie.Need-mul-next-2
-mul-next-2 c = search needs
-
-element-write-next : tie.Need-element-write-next
-element-write-next c = search needs
-
-mul-next-3 : tie.Need-mul-next-3
-mul-next-3 c = search needs
-
-element-write-next-2 : tie.Need-element-write-next-2
-element-write-next-2 c = search needs
-
-shl-next : tie.Need-shl-next
-shl-next c = search needs
-
 returns : tie.Need-returns
 returns c =
     let s = c .before .before in
@@ -49,12 +25,12 @@ pub written-spec : {M : Type 1} → statement M
 written-spec =
     tie.close
     (tie.spec
-    bit-of-requires
-    mul-next
-    element-copy-out-next
-    mul-next-2
-    element-write-next
-    mul-next-3
-    element-write-next-2
-    shl-next
+    (λ c κs. omega arith)
+    (λ c. search needs)
+    (λ c. search needs)
+    (λ c. search needs)
+    (λ c. search needs)
+    (λ c. search needs)
+    (λ c. search needs)
+    (λ c. search needs)
     returns)

@@ -2,7 +2,7 @@
 -- page numbers, so that no sum overflows.
 use Prim.Native.Nat.{_≤_, _-_}
 use native.Mathlib.Omega.{arith}
-use mathlib.Core.Path.{_≡_, ap, _∙_}
+use mathlib.Core.Path.{_≡_}
 use mathlib.Core.Logic.{⊎-elim}
 use borrow.Author.Needs.{needs}
 use Rattle.ranges.proofs.Counts.{count-le}
@@ -10,17 +10,16 @@ use Rattle.layout.specs.Layout.{layoutOf}
 use Rattle.layout.specs.Record.{recordAt, slotted}
 use Rattle.layout.specs.Collection.{collectionAt}
 use Rattle.layout.proofs.Limits.{Within, within}
-use Rattle.names.specs.Stamps.{namesIn}
-use Rattle.records.proofs.Tables.{Passed, passed-start, passed-next, passed-plain, passed-all, passed-slots}
+use Rattle.records.proofs.Tables.{Passed, passed-start, passed-next, passed-plain, passed-names, passed-all, passed-slots}
 use Rattle.records.proofs.scan_records.Statement.{statement}
 use Rattle.records.proofs.scan_records.Tie as tie
 
 abbrev Inv-loop : tie.InvT-loop
-Inv-loop g records s most tops seen₀ tally₀ names₀ j₀ seen tally names j =
-    (j ≤ g .s) × Passed g (recordAt (layoutOf g) records) j seen tally names
+Inv-loop g records lost s most tops seen₀ tally₀ names₀ gone₀ j₀ seen tally names gone j =
+    (j ≤ g .s) × Passed g (recordAt (layoutOf g) records) lost j seen tally names gone
 
 abbrev μ-loop : tie.MeasureT-loop
-μ-loop g records s most tops seen₀ tally₀ names₀ j₀ seen tally names j = g .s - j
+μ-loop g records lost s most tops seen₀ tally₀ names₀ gone₀ j₀ seen tally names gone j = g .s - j
 
 -- what the function was called with, before the loop
 abbrev start : tie.At-loop Inv-loop μ-loop → tie.Start Inv-loop μ-loop
@@ -35,29 +34,31 @@ loop-holds c =
     let a = c .before .before .before .args in
     (omega arith, passed-start (c .no-tally .ensures (a .g) (recordAt (layoutOf (a .g)) (a .records .now))))
 
+add-gone : tie.Need-add-gone Inv-loop μ-loop
+add-gone c = let o = c .before .before .before .before in let few = limits o .stripes-high in omega (arith, o .loop .inv .1 .few, o .loop .inv .1 .less, c .names-lost .ensures .1)
+
 add-names : tie.Need-add-names Inv-loop μ-loop
-add-names c = let few = limits (c .before .before .before .before .before) .stripes-high in omega arith
+add-names c = let o = c .before .before .before .before .before .before in let few = limits o .stripes-high in omega (arith, o .loop .inv .1 .few, c .before .before .before .glance-at .ensures .few)
 
 with-record-requires : tie.Need-with-record-requires Inv-loop μ-loop
 with-record-requires c κs =
-    let o = c .before .before .before .before .before in
+    let o = c .before .before .before .before .before .before in
     let s = start o in
     let few = limits o .stripes-high in
     (s .pre .limited, omega (arith, o .loop .inv .1 .tally .counts, count-le (o .loop .j) (slotted (recordAt (layoutOf (s .args .g)) (s .args .records .now)))))
 
 add-names-2 : tie.Need-add-names-2 Inv-loop μ-loop
-add-names-2 c =
-    let o = c .before .before .before .before .before .before .before in
-    let few = limits o .stripes-high in
-    let most = o .loop .inv .1 .few in
-    omega (arith, c .names-of .ensures .1)
+add-names-2 c = let o = c .before .before .before .before .before .before .before .before in let few = limits o .stripes-high in omega (arith, o .loop .inv .1 .few, c .names-of .ensures .1)
 
 loop-again : tie.Need-loop-again Inv-loop μ-loop
 loop-again c =
-    let p = c .before .before .before .before .loop .inv .1 in
+    let o = c .before .before .before .before .before in
+    let limited = start o .pre .limited in
+    let p = o .loop .inv .1 in
+    let gone = c .before .names-lost .ensures .0 in
     ⊎-elim
-    (λ w. (omega arith, rw (w .2, w .3, w .4) (passed-plain p (c .before .glance-at .ensures) (w .0 .taken))))
-    (λ w. (omega arith, rw (w .4, w .5, w .6) (passed-next p (w .1 .ensures) (w .3 .ensures) (w .2 .ensures))))
+    (λ w. (omega arith, rw (w .2, w .3, w .4) (passed-plain limited p (c .before .before .glance-at .ensures) (w .0 .taken) gone)))
+    (λ w. (omega arith, rw (w .4, w .5, w .6) (passed-next limited p (w .1 .ensures) (w .3 .ensures) (w .2 .ensures) gone)))
     (c .if1 .came)
 
 lowest-unmarked-requires : tie.Need-lowest-unmarked-requires Inv-loop μ-loop
@@ -67,12 +68,12 @@ returns : tie.Need-returns Inv-loop μ-loop
 returns c =
     let o = c .before .before .before .before .before .before .before in
     let a = start o .args in
+    let limited = start o .pre .limited in
     let p = o .loop .inv .1 in
-    let r = recordAt (layoutOf (a .g)) (a .records .now) in
     let all : o .loop .j ≡ a .g .s = omega arith in (
-      rw (c .before .before .before .collection-passes .ensures) (passed-all p all (collectionAt (layoutOf (a .g)) (a .records .now))),
-      p .named ∙ ap (namesIn (layoutOf (a .g)) r) all,
-      rw (c .before .before .cheapest-in .ensures, c .lowest-unmarked .ensures) (passed-slots p all (limits o .partials-high)),
+      rw (c .before .before .before .collection-passes .ensures) (passed-all limited p all (collectionAt (layoutOf (a .g)) (a .records .now))),
+      passed-names limited p all,
+      rw (c .lowest-unmarked .ensures) (passed-slots limited p all (limits o .partials-high)),
     )
 
 pub scan-records-spec : {M : Type 1} → statement M
@@ -85,6 +86,8 @@ scan-records-spec =
     (λ c κs. search needs)
     loop-holds
     (λ c κs. search needs)
+    (λ c κs. search needs)
+    add-gone
     add-names
     (λ c κs. search needs)
     (λ c. search needs)
@@ -96,6 +99,6 @@ scan-records-spec =
     (λ c. omega arith)
     loop-again
     (λ c κs. search needs)
-    (λ c κs. search needs)
     lowest-unmarked-requires
+    (λ c. c .before .before .before .before .before .before .before .loop .inv .1 .less)
     returns)

@@ -17,13 +17,14 @@ use Rattle.layout.proofs.Rotations.{parity-chip-fits, member-chip-fits, stripe-
 use Rattle.layout.proofs.Records.{same-bit, same-slotted}
 use Rattle.rules.specs.Names.{mainNumber, sideNumber}
 use Rattle.rules.specs.Gather.{bytesAt}
-use Rattle.rules.specs.Commit.{currentOutside, oldInside, newParity}
-use Rattle.rules.specs.Read.{Fetched, fetch}
+use Rattle.rules.specs.Fetch.{Fetched, underParity}
+use Rattle.rules.specs.Read.{fetch}
 use Rattle.rules.proofs.Soundness.Statements.{Usable, Sound}
 use Rattle.rules.proofs.Stores.Names.{main-member, side-member, main-parity}
 use Rattle.rules.proofs.Stores.Kept.{CopiesOf, Same, Kept}
-use Rattle.rules.proofs.Data.Contents.{currentInside, underParity, StripeData, Data, bytes-none, bytes-page, gathered-cong}
+use Rattle.rules.proofs.Data.Contents.{currentInside, StripeData, Data, bytes-none, bytes-page, gathered-cong}
 use Rattle.rules.proofs.Data.Rebuild.{fetch-unwritten, fetch-direct}
+use Rattle.rules.proofs.Data.Feeds.{currentOutside, oldInside, parityBytes}
 
 module _ (l : Layout) where
   open Layout l using (N, S)
@@ -116,8 +117,8 @@ module _ (l : Layout) where
   pub new-parity-kept : (y y′ : ℕ → ℕ → Page) (j : ℕ) (r : Record)
       → ((c : ℕ) → c < N + 1 → bytesAt l y′ c (mainNumber l c j r) ≡ bytesAt l y c (mainNumber l c j r))
       → ((c : ℕ) → c < N + 1 → bytesAt l y′ c (sideNumber l c j r) ≡ bytesAt l y c (sideNumber l c j r))
-      → (z z′ : ℕ → List ℕ) → z′ (r .slot) ≡ z (r .slot) → newParity l y′ z′ j r ≡ newParity l y z j r
-  unfolding newParity
+      → (z z′ : ℕ → List ℕ) → z′ (r .slot) ≡ z (r .slot) → parityBytes l y′ z′ j r ≡ parityBytes l y z j r
+  unfolding parityBytes
   new-parity-kept y y′ j r main side z z′ memory =
       rw (
         memory,
@@ -141,11 +142,7 @@ module _ (l : Layout) where
             (fetch-unwritten l t noChip i (eqb-true p′ (none l) (same .none-too ∙ eq-eqb p (none l) e)) ∙ sym (fetch-unwritten l s noChip i e))
         | no d ↦
             let d′ : p′ ≢ none l = λ e. d (eqb-true p (none l) (sym (same .none-too) ∙ eq-eqb p′ (none l) e)) in
-            ap (λ (x : Fetched). x .bytes) (fetch-direct l w t i d′)
-            ∙ sym (bytes-page l (pageAt l (t .chips)) c p′ d′)
-            ∙ same .bytes
-            ∙ bytes-page l (pageAt l (s .chips)) c p d
-            ∙ sym (ap (λ (x : Fetched). x .bytes) (fetch-direct l w s i d))
+            fetch-direct l w t i d′ ∙ same .bytes ∙ sym (fetch-direct l w s i d)
       ]
 
   -- what keeps every number's bytes keeps both groups and every read

@@ -19,7 +19,7 @@ use Rattle.layout.specs.Images.{Images, slotAt}
 use Rattle.layout.proofs.Records.{SixMembers, six-members}
 use Rattle.layout.proofs.Pages.{page-number}
 use Rattle.steps.specs.Store.{stripe, apply}
-use Rattle.rules.specs.Commit.{newParity, committed}
+use Rattle.rules.specs.Parity.{committed}
 use Rattle.rules.proofs.Soundness.Statements.{Usable, RecordSound, Sound}
 use Rattle.rules.proofs.Stores.Kept.{CopiesOf, Kept}
 use Rattle.rules.proofs.Stores.Storing.{stripe-view, stripe-collection, sound-stripe}
@@ -28,6 +28,7 @@ use Rattle.rules.proofs.Data.Parity.{commit-data}
 use Rattle.rules.proofs.Data.Carries.{Carries, kept-carries, new-parity-kept}
 use Rattle.rules.proofs.Data.Entries.{committed-six, committed-sound, committed-main, committed-side}
 use Rattle.rules.proofs.Data.NewRecord.{NewPage, main-stamped, side-stamped, stored-here, stored-other, stored-copies, stored-data, stored-read}
+use Rattle.rules.proofs.Data.Feeds.{parityBytes}
 
 module _ (l : Layout) (u : Usable l) where
   open Layout l using (S)
@@ -35,7 +36,7 @@ module _ (l : Layout) (u : Usable l) where
   -- The record of a commit, stored on images t in which the parity page stands at p, worked out from s.
   module _ (s t : Images) (k : Kept l s t) (same : t .records ≡ s .records) (rest : collectionAt l (t .records) .phase ≡ 0)
       (j p : ℕ) (fits : j < S) (slot : hasSlot (recordAt l (t .records) j) ≡ true)
-      (new : NewPage l t (parityChip l j) j p (newParity l (pageAt l (s .chips)) (slotAt l (s .slots)) j (recordAt l (s .records) j))) where
+      (new : NewPage l t (parityChip l j) j p (parityBytes l (pageAt l (s .chips)) (slotAt l (s .slots)) j (recordAt l (s .records) j))) where
     abbrev r : Record
     r = recordAt l (t .records) j
 
@@ -86,7 +87,7 @@ module _ (l : Layout) (u : Usable l) where
     same-record = ap (λ (x : List ℕ). recordAt l x j) (sym same)
 
     new-parity : CopiesOf l s
-        → newParity l (pageAt l (s .chips)) (slotAt l (s .slots)) j (recordAt l (s .records) j) ≡ newParity l (pageAt l (t .chips)) (slotAt l (t .slots)) j r
+        → parityBytes l (pageAt l (s .chips)) (slotAt l (s .slots)) j (recordAt l (s .records) j) ≡ parityBytes l (pageAt l (t .chips)) (slotAt l (t .slots)) j r
     new-parity c =
         rw same-record
         (sym (new-parity-kept l (pageAt l (s .chips)) (pageAt l (t .chips)) j r

@@ -25,6 +25,7 @@ use Rattle.layout.proofs.Bits.{bit-test, nonzero-has-bit}
 use Rattle.layout.proofs.Rotations.{member-chip-fits}
 use Rattle.layout.proofs.Records.{bits-of-none}
 use Rattle.rules.specs.Gather.{bytesAt, memberBytes, gathered}
+use Rattle.rules.specs.Fetch.{underParity}
 use Rattle.rules.proofs.Soundness.Statements.{Numbered, RecordSound}
 
 module _ (l : Layout) where
@@ -34,14 +35,10 @@ module _ (l : Layout) where
   unfoldable pub currentInside : Record → ℕ → ℕ
   currentInside r m = cond (bit r m) (r .current m) (none l)
 
-  -- the old pages of the set members and the current pages of the clear ones, which the parity is made of
-  unfoldable pub underParity : Record → ℕ → ℕ
-  underParity r m = cond (bit r m) (r .old m) (r .current m)
-
   -- stripe j with its record r, where y gives the pages of each chip and z the slots
   pub record StripeData (y : ℕ → ℕ → Page) (z : ℕ → List ℕ) (j : ℕ) (r : Record) : Type 0 where
     pub partial : hasSlot r ≡ true → z (r .slot) ≡ gathered l y j (currentInside r)
-    pub parity : bytesAt l y (parityChip l j) (r .parity) ≡ gathered l y j (underParity r)
+    pub parity : bytesAt l y (parityChip l j) (r .parity) ≡ gathered l y j (underParity l r)
 
   -- every page holds W bytes
   abbrev pub Whole : (ℕ → ℕ → Page) → Type 0

@@ -9,7 +9,8 @@ use Rattle.ranges.proofs.Counts.{count-apart, count-implies}
 use Rattle.layout.specs.Layout.{Layout, none, isNone}
 use Rattle.layout.specs.Record.{Record, bit}
 use Rattle.rules.specs.Gather.{readsAt, isPage, gatheredReads}
-use Rattle.rules.specs.Commit.{setBits, mostInPartial, costOf, currentOutside, oldInside, newParityReads}
+use Rattle.rules.specs.Costs.{setBits, mostInPartial, costOf}
+use Rattle.rules.proofs.Data.Feeds.{currentOutside, oldInside, parityReads}
 
 module _ (l : Layout) where
   open Layout l using (N)
@@ -28,8 +29,8 @@ module _ (l : Layout) where
   unfolding oldInside
   no-old r m e = by-test (bit r m) (λ t. t) (λ t. both false (rw (t, eq-eqb (none l) (none l) refl) at e) refl)
 
-  pub commit-reads : (r : Record) → newParityReads l r ≤ costOf l (setBits l r)
-  unfolding newParityReads costOf gatheredReads setBits
+  pub commit-reads : (r : Record) → parityReads l r ≤ costOf l (setBits l r)
+  unfolding parityReads costOf gatheredReads setBits
   commit-reads r =
       by-test (mostInPartial l (setBits l r))
       (λ t. rw t (omega (arith, count-apart N (isPage l (currentOutside l r)) (bit r) (λ m h. no-current r m))))

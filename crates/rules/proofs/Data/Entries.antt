@@ -23,13 +23,16 @@ use Rattle.layout.proofs.Records.{bits-of-none, SixMembers}
 use Rattle.layout.proofs.Pages.{page-number}
 use Rattle.rules.specs.Names.{mainNumber, sideNumber}
 use Rattle.rules.specs.Gather.{bytesAt, gathered}
-use Rattle.rules.specs.Commit.{setBits, mostInPartial, currentOutside, oldInside, newParity, committed}
-use Rattle.rules.specs.Write.{newPartial, written}
+use Rattle.rules.specs.Costs.{setBits, mostInPartial}
+use Rattle.rules.specs.Parity.{committed}
+use Rattle.rules.specs.Partial.{written}
 use Rattle.rules.proofs.Soundness.Statements.{Numbered, MemberSound, RecordSound, Stamped, Sound, sound-member}
 use Rattle.rules.proofs.Stores.Names.{main-member, side-member, main-parity, side-parity, by-chip}
 use Rattle.rules.proofs.Stores.Stays.{stays-same, member-same}
-use Rattle.rules.proofs.Data.Contents.{underParity, numbered-none, length-bytes-most, length-gathered, pages-whole, slot-whole, slot-bits}
+use Rattle.rules.proofs.Data.Contents.{numbered-none, length-bytes-most, length-gathered, pages-whole, slot-whole, slot-bits}
 use Rattle.rules.proofs.Data.Parity.{written-bit, written-bit-other, written-current, written-current-other, written-old, written-old-other, numbered-outside, numbered-under-parity, numbered-old}
+use Rattle.rules.specs.Fetch.{underParity}
+use Rattle.rules.proofs.Data.Feeds.{currentOutside, oldInside, parityBytes, partialBytes}
 
 module _ (l : Layout) where
   open Layout l using (N, W, S, M)
@@ -188,8 +191,8 @@ module _ (l : Layout) where
     short = length-gathered l y j (pages-whole l s (f .chips))
 
     -- both are W bytes long
-    pub new-parity-length : hasSlot r ≡ true → length (newParity l y (slotAt l (s .slots)) j r) ≡ W
-    unfolding newParity
+    pub new-parity-length : hasSlot r ≡ true → length (parityBytes l y (slotAt l (s .slots)) j r) ≡ W
+    unfolding parityBytes
     new-parity-length t =
         let x = slotAt l (s .slots) (r .slot) in
         let parity = bytesAt l y (parityChip l j) (r .parity) in
@@ -202,8 +205,8 @@ module _ (l : Layout) where
         ∙ length-slot t))
 
   pub new-partial-length : Within l → (s : Images) (j m : ℕ) (xs : List ℕ) → Sound l s → j < S → m < N → length xs ≡ W
-      → length (newPartial l (pageAt l (s .chips)) (slotAt l (s .slots)) j m xs (recordAt l (s .records) j)) ≡ W
-  unfolding newPartial
+      → length (partialBytes l (pageAt l (s .chips)) (slotAt l (s .slots)) j m xs (recordAt l (s .records) j)) ≡ W
+  unfolding partialBytes
   new-partial-length w s j m xs f fits h long =
       let r = recordAt l (s .records) j in
       let x = slotAt l (s .slots) (r .slot) in

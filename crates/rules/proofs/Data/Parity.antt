@@ -21,14 +21,18 @@ use Rattle.layout.proofs.Limits.{Within}
 use Rattle.layout.proofs.Bits.{test-set-same, test-set-other}
 use Rattle.layout.proofs.Rotations.{member-chip-fits}
 use Rattle.layout.proofs.Records.{bits-of-none}
+use Rattle.rules.specs.declared.Role.{Role}
+use Rattle.rules.specs.declared.Role.the-variants.{Current, Old, Parity}
 use Rattle.rules.specs.Gather.{bytesAt, gathered}
-use Rattle.rules.specs.Read.{othersInside, othersUnderParity}
-use Rattle.rules.specs.Write.{newPartial, written}
-use Rattle.rules.specs.Commit.{setBits, mostInPartial, currentOutside, oldInside, newParity, committed}
+use Rattle.rules.specs.Fetch.{chipIn, numberIn, underParity, othersUnderParity, othersInside, throughPartial, throughParity, parityAnew, rebuilt}
+use Rattle.rules.specs.Partial.{written}
+use Rattle.rules.specs.Costs.{setBits, mostInPartial}
+use Rattle.rules.specs.Parity.{committed}
 use Rattle.rules.proofs.Soundness.Statements.{Numbered, RecordSound, sound-member}
-use Rattle.rules.proofs.Data.Contents.{currentInside, underParity, StripeData, Whole, bytes-none, bytes-page, numbered-none, numbered-cond, length-bytes}
+use Rattle.rules.proofs.Data.Contents.{currentInside, StripeData, Whole, bytes-none, bytes-page, numbered-none, numbered-cond, length-bytes}
 use Rattle.rules.proofs.Data.Contents.{gathered-cong, gathered-same, gathered-none, gathered-one, gathered-split, length-gathered, gathered-whole, some-bit, bit-slot}
 use Rattle.rules.proofs.Data.Contents.{no-slot-no-bit}
+use Rattle.rules.proofs.Data.Feeds.{currentOutside, oldInside, parityBytes, partialBytes}
 
 -- ---- the record of a write
 
@@ -105,12 +109,16 @@ module _ (l : Layout) (m : ℕ) (r : Record) where
   unfolding underParity
   under-parity-clear t = rw t
 
-  pub under-parity-here : bit r m ≡ false → othersUnderParity l m r m ≡ none l
+  under-parity-set : bit r m ≡ true → underParity l r m ≡ r .old m
+  unfolding underParity
+  under-parity-set t = rw t
+
+  pub under-parity-here : othersUnderParity l m r m ≡ none l
   unfolding othersUnderParity
-  under-parity-here t = rw (t, eq-eqb m m refl)
+  under-parity-here = rw (eq-eqb m m refl)
 
   under-parity-other : (k : ℕ) → k ≢ m → othersUnderParity l m r k ≡ underParity l r k
-  unfolding othersUnderParity underParity
+  unfolding othersUnderParity
   under-parity-other k d = rw (ne-eqb k m d)
 
 -- the record of a commit has every current page under the parity
@@ -147,8 +155,7 @@ module _ (l : Layout) (w : Within l) (r : Record) (f : RecordSound l r) where
   pub numbered-others-under-parity : (m k : ℕ) → k < N → Numbered l (othersUnderParity l m r k)
   unfolding othersUnderParity
   numbered-others-under-parity m k h =
-      numbered-cond l (bit r k) (r .old k) (cond (eqb k m) (none l) (r .current k)) (sound-member l w r f k h .old)
-      (numbered-cond l (eqb k m) (none l) (r .current k) (numbered-none l) (sound-member l w r f k h .current))
+      numbered-cond l (eqb k m) (none l) (underParity l r k) (numbered-none l) (numbered-under-parity k h)
 
 -- ---- the groups together
 
@@ -171,6 +178,12 @@ module _ (l : Layout) (y : ℕ → ℕ → Page) (j : ℕ) (r : Record) where
 
 -- ---- one stripe
 
+-- the member of a role is one of the N
+abbrev pub memberIn : Layout → Role → Type 0
+memberIn l (Current m) = m < l .N
+memberIn l (Old m) = m < l .N
+memberIn l Parity = Unit
+
 module _ (l : Layout) (w : Within l) (y : ℕ → ℕ → Page) (whole : Whole l y) (z : ℕ → List ℕ) (j : ℕ) (r : Record) (f : RecordSound l r) (d : StripeData l y z j r) where
   open Layout l using (N, W)
 
@@ -186,29 +199,45 @@ module _ (l : Layout) (w : Within l) (y : ℕ → ℕ → Page) (whole : Whole l
       ∙ gathered-one l y j (othersInside l m r) (currentInside l r) m h (others-inside-here l m r) (λ k b. others-inside-other l m r k)
       ∙ ap (λ p. gathered l y j (othersInside l m r) ⊕ bytesAt l y (memberChip l j m) p) (inside-set l m r t)
 
-  parity-one : (m : ℕ) → m < N → bit r m ≡ false
-      → bytesAt l y (parityChip l j) (r .parity) ≡ gathered l y j (othersUnderParity l m r) ⊕ bytesAt l y (memberChip l j m) (r .current m)
-  parity-one m h t =
+  parity-one : (m : ℕ) → m < N
+      → bytesAt l y (parityChip l j) (r .parity) ≡ gathered l y j (othersUnderParity l m r) ⊕ bytesAt l y (memberChip l j m) (underParity l r m)
+  parity-one m h =
       d .parity
-      ∙ gathered-one l y j (othersUnderParity l m r) (underParity l r) m h (under-parity-here l m r t) (λ k b. under-parity-other l m r k)
-      ∙ ap (λ p. gathered l y j (othersUnderParity l m r) ⊕ bytesAt l y (memberChip l j m) p) (under-parity-clear l m r t)
+      ∙ gathered-one l y j (othersUnderParity l m r) (underParity l r) m h (under-parity-here l m r) (λ k b. under-parity-other l m r k)
 
-  -- the group without a member gives the bytes of that member
-  pub rebuilt-inside : (m : ℕ) → m < N → bit r m ≡ true
-      → z (r .slot) ⊕ gathered l y j (othersInside l m r) ≡ y (memberChip l j m) (r .current m) .bytes
+  -- the group without a page gives the bytes of that page
+  rebuilt-inside : (m : ℕ) → m < N → bit r m ≡ true → throughPartial l y z j r m .bytes ≡ bytesAt l y (memberChip l j m) (r .current m)
+  unfolding throughPartial
   rebuilt-inside m h t =
-      let page = sound-member l w r f m h .current-under-bit t .0 in
       cancel-rest (z (r .slot)) (gathered l y j (othersInside l m r)) (bytesAt l y (memberChip l j m) (r .current m)) (partial-one m h t)
-      (omega (arith, page-whole m h page, length-gathered l y j whole (othersInside l m r) (numbered-others-inside l w r f m)))
-      ∙ bytes-page l y (memberChip l j m) (r .current m) page
+      (omega (arith, page-whole m h (sound-member l w r f m h .current-under-bit t .0), length-gathered l y j whole (othersInside l m r) (numbered-others-inside l w r f m)))
 
-  pub rebuilt-outside : (m : ℕ) → m < N → bit r m ≡ false → r .current m ≢ none l
-      → bytesAt l y (parityChip l j) (r .parity) ⊕ gathered l y j (othersUnderParity l m r) ≡ y (memberChip l j m) (r .current m) .bytes
-  rebuilt-outside m h t page =
-      cancel-rest (bytesAt l y (parityChip l j) (r .parity)) (gathered l y j (othersUnderParity l m r)) (bytesAt l y (memberChip l j m) (r .current m))
-      (parity-one m h t)
-      (omega (arith, page-whole m h page, length-gathered l y j whole (othersUnderParity l m r) (numbered-others-under-parity l w r f m)))
-      ∙ bytes-page l y (memberChip l j m) (r .current m) page
+  rebuilt-under : (m : ℕ) → m < N → underParity l r m ≢ none l → throughParity l y z j r m .bytes ≡ bytesAt l y (memberChip l j m) (underParity l r m)
+  unfolding throughParity
+  rebuilt-under m h page =
+      cancel-rest (bytesAt l y (parityChip l j) (r .parity)) (gathered l y j (othersUnderParity l m r)) (bytesAt l y (memberChip l j m) (underParity l r m))
+      (parity-one m h)
+      (omega (
+        arith,
+        length-bytes l y whole (memberChip l j m) (underParity l r m) (member-chip-fits l j m h) (numbered-under-parity l w r f m h) page,
+        length-gathered l y j whole (othersUnderParity l m r) (numbered-others-under-parity l w r f m),
+      ))
+
+  rebuilt-parity : parityAnew l y z j r .bytes ≡ bytesAt l y (parityChip l j) (r .parity)
+  unfolding parityAnew
+  rebuilt-parity = sym (d .parity)
+
+  -- a page in any role that is rebuilt is that page
+  pub rebuilt-right : (role : Role) → memberIn l role → numberIn l r role ≢ none l
+      → rebuilt l y z j r role .bytes ≡ bytesAt l y (chipIn l j role) (numberIn l r role)
+  rebuilt-right (Current m) h page =
+      by-test (bit r m)
+      (λ t. rw t (rebuilt-inside m h t))
+      (λ t. rw t (rw (under-parity-clear l m r t) at (rebuilt-under m h (rw (under-parity-clear l m r t) page))))
+  rebuilt-right (Old m) h page =
+      let t = sound-member l w r f m h .old-under-bit page in
+      rw (under-parity-set l m r t) at (rebuilt-under m h (rw (under-parity-set l m r t) page))
+  rebuilt-right Parity h page = rebuilt-parity
 
   -- ---- write
 
@@ -225,8 +254,8 @@ module _ (l : Layout) (w : Within l) (y : ℕ → ℕ → Page) (whole : Whole l
 
   -- the partial of a write is the data and the other pages of the bitmap
   partial-written : (m : ℕ) (xs : List ℕ) → m < N → length xs ≡ W
-      → newPartial l y z j m xs r ≡ gathered l y j (othersInside l m r) ⊕ xs
-  unfolding newPartial
+      → partialBytes l y z j m xs r ≡ gathered l y j (othersInside l m r) ⊕ xs
+  unfolding partialBytes
   partial-written m xs h long =
       by-test (hasSlot r)
       (λ s. by-test (bit r m)
@@ -238,7 +267,7 @@ module _ (l : Layout) (w : Within l) (y : ℕ → ℕ → Page) (whole : Whole l
 
   -- after the write both groups are right
   pub write-data : (m p i : ℕ) (xs : List ℕ) → m < N → p ≢ none l → y (memberChip l j m) p .bytes ≡ xs → length xs ≡ W → (z′ : ℕ → List ℕ)
-      → z′ i ≡ newPartial l y z j m xs r → StripeData l y z′ j (written l m p i r)
+      → z′ i ≡ partialBytes l y z j m xs r → StripeData l y z′ j (written l m p i r)
   unfolding written
   write-data m p i xs h page e long z′ q = record {
     partial = λ t. q ∙ partial-written m xs h long ∙ sym (after-write m p i xs h page e);
@@ -255,8 +284,8 @@ module _ (l : Layout) (w : Within l) (y : ℕ → ℕ → Page) (whole : Whole l
       (rw (inside-set l m r t) (sound-member l w r f m h .current-under-bit t .0))
 
   -- both formulas give the XOR of all current pages
-  new-parity-is : hasSlot r ≡ true → newParity l y z j r ≡ gathered l y j (r .current)
-  unfolding newParity
+  new-parity-is : hasSlot r ≡ true → parityBytes l y z j r ≡ gathered l y j (r .current)
+  unfolding parityBytes
   new-parity-is s =
       let all = ap (λ x. x ⊕ gathered l y j (currentOutside l r)) (d .partial s) ∙ inside-outside l y j r in
       by-test (mostInPartial l (setBits l r))
@@ -268,7 +297,7 @@ module _ (l : Layout) (w : Within l) (y : ℕ → ℕ → Page) (whole : Whole l
 
   -- after the commit both groups are right
   pub commit-data : (p : ℕ) → p ≢ none l → hasSlot r ≡ true → (y′ : ℕ → ℕ → Page)
-      → y′ (parityChip l j) p .bytes ≡ newParity l y z j r
+      → y′ (parityChip l j) p .bytes ≡ parityBytes l y z j r
       → ((m : ℕ) → m < N → bytesAt l y′ (memberChip l j m) (r .current m) ≡ bytesAt l y (memberChip l j m) (r .current m))
       → (z′ : ℕ → List ℕ) → StripeData l y′ z′ j (committed l p r)
   unfolding committed

@@ -1,9 +1,10 @@
--- A read on a lost chip looks at no page of it, and gives what a read of the page itself would.
+-- A page on a lost chip is fetched without a look at that chip, and is what a fetch of the page itself would give.
 use Prim.Native.Nat.{ℕ, _*_, _<_}
 use native.Mathlib.Decide.{ℕ-discrete}
-use mathlib.Core.Path.{_≡_, sym, _∙_}
+use mathlib.Core.Path.{_≡_, refl, sym, ap, _∙_}
 use mathlib.Core.Logic.{_≢_}
 use mathlib.Core.List.{List}
+use lib.Dec.{eqb}
 use borrow.Author.Tests.{eq-eqb, ne-eqb}
 use Rattle.ranges.proofs.Looks.{by-test}
 use Rattle.layout.specs.Layout.{Layout, noChip, none}
@@ -12,122 +13,145 @@ use Rattle.layout.specs.Page.{Page, pageAt}
 use Rattle.layout.specs.Record.{Record, bit, recordAt}
 use Rattle.layout.specs.Images.{Images, slotAt}
 use Rattle.layout.proofs.Limits.{Within}
-use Rattle.layout.proofs.Rotations.{member-chip-other, other-member-chip, chip-there, stripe-fits, member-fits}
+use Rattle.layout.proofs.Rotations.{member-chip-other, other-member-chip, member-chip-fits, stripe-fits, member-fits}
+use Rattle.rules.specs.declared.Role.{Role}
+use Rattle.rules.specs.declared.Role.the-variants.{Current, Old, Parity}
 use Rattle.rules.specs.Gather.{bytesAt, gathered}
-use Rattle.rules.specs.Read.{othersInside, othersUnderParity, throughPartial, throughParity, rebuilt, direct, unwritten, fetchMember, fetch}
-use Rattle.rules.proofs.Soundness.Statements.{RecordSound, Sound}
-use Rattle.rules.proofs.Data.Contents.{Whole, Data, bytes-none, gathered-cong, pages-whole}
-use Rattle.rules.proofs.Data.Parity.{others-inside-here, under-parity-here, rebuilt-inside, rebuilt-outside}
+use Rattle.rules.specs.Fetch.{Fetched, chipIn, numberIn, underParity, othersUnderParity, othersInside, itself, throughPartial, throughParity, parityAnew, rebuilt, fetchRole, fetchIn}
+use Rattle.rules.specs.Read.{unwritten, fetchMember, fetch}
+use Rattle.rules.proofs.Soundness.Statements.{Sound}
+use Rattle.rules.proofs.Data.Contents.{Data, bytes-none, gathered-cong, pages-whole}
+use Rattle.rules.proofs.Data.Feeds.{page-there}
+use Rattle.rules.proofs.Data.Parity.{memberIn, others-inside-here, under-parity-here, rebuilt-right}
 
 module _ (l : Layout) where
   open Layout l using (N, W, S)
 
-  -- ---- the three ways of a read
+  -- ---- the two ways of a fetch
 
-  module _ (y : ℕ → ℕ → Page) (z : ℕ → List ℕ) (lost j m : ℕ) (r : Record) where
-    member-unwritten : r .current m ≡ none l → fetchMember l y z lost j m r ≡ unwritten l
-    unfolding fetchMember
-    member-unwritten e = rw (eq-eqb (r .current m) (none l) e)
+  module _ (y : ℕ → ℕ → Page) (z : ℕ → List ℕ) (j : ℕ) (r : Record) (lost : ℕ) (role : Role) where
+    role-rebuilt : chipIn l j role ≡ lost → numberIn l r role ≢ none l → fetchRole l y z j r lost role ≡ rebuilt l y z j r role
+    unfolding fetchRole
+    role-rebuilt e d = rw (eq-eqb (chipIn l j role) lost e, ne-eqb (numberIn l r role) (none l) d)
 
-    member-rebuilt : r .current m ≢ none l → memberChip l j m ≡ lost → fetchMember l y z lost j m r ≡ rebuilt l y z j m r
-    unfolding fetchMember
-    member-rebuilt d e = rw (ne-eqb (r .current m) (none l) d, eq-eqb (memberChip l j m) lost e)
+    role-none : numberIn l r role ≡ none l → fetchRole l y z j r lost role ≡ itself l y z j r (chipIn l j role) (none l)
+    unfolding fetchRole
+    role-none e = by-test (eqb (chipIn l j role) lost) (λ t. rw (t, e, eq-eqb (none l) (none l) refl)) (λ t. rw (t, e))
 
-    member-direct : r .current m ≢ none l → memberChip l j m ≢ lost → fetchMember l y z lost j m r ≡ direct l y j m r
-    unfolding fetchMember
-    member-direct d e = rw (ne-eqb (r .current m) (none l) d, ne-eqb (memberChip l j m) lost e)
+    role-direct : chipIn l j role ≢ lost → fetchRole l y z j r lost role ≡ itself l y z j r (chipIn l j role) (numberIn l r role)
+    unfolding fetchRole
+    role-direct d = rw (ne-eqb (chipIn l j role) lost d)
 
   -- ---- a lost chip is not looked at
 
-  module _ (y y′ : ℕ → ℕ → Page) (z : ℕ → List ℕ) (lost : ℕ) (elsewhere : (c : ℕ) → c ≢ lost → y′ c ≡ y c) where
+  module _ (y y′ : ℕ → ℕ → Page) (z : ℕ → List ℕ) (lost : ℕ) (elsewhere : (c : ℕ) → c ≢ lost → y′ c ≡ y c) (j : ℕ) (r : Record) where
     bytes-elsewhere : (c p : ℕ) → c ≢ lost → bytesAt l y′ c p ≡ bytesAt l y c p
     unfolding bytesAt
     bytes-elsewhere c p d = rw (elsewhere c d)
 
-    -- member m on the lost chip, of which nothing is gathered
-    module _ (j m : ℕ) (r : Record) (on-it : memberChip l j m ≡ lost) where
+    -- member m is on the lost chip, and nothing of it is gathered
+    module _ (m : ℕ) (on-it : memberChip l j m ≡ lost) where
       gathered-elsewhere : (g : ℕ → ℕ) → g m ≡ none l → gathered l y′ j g ≡ gathered l y j g
       gathered-elsewhere g e = gathered-cong l y y′ j g g λ k b. elim (ℕ-discrete k m) [
         | yes q ↦ rw (q, e, bytes-none l y′ (memberChip l j m), bytes-none l y (memberChip l j m))
         | no d ↦ bytes-elsewhere (memberChip l j k) (g k) (λ q. other-member-chip l j m k d (q ∙ sym on-it))
       ]
 
-      parity-elsewhere : parityChip l j ≢ lost
-      parity-elsewhere e = member-chip-other l j m (on-it ∙ sym e)
+      through-parity-elsewhere : throughParity l y′ z j r m ≡ throughParity l y z j r m
+      unfolding throughParity
+      through-parity-elsewhere =
+          rw (
+            bytes-elsewhere (parityChip l j) (r .parity) (λ e. member-chip-other l j m (on-it ∙ sym e)),
+            gathered-elsewhere (othersUnderParity l m r) (under-parity-here l m r),
+          )
 
-      rebuilt-elsewhere : rebuilt l y′ z j m r ≡ rebuilt l y z j m r
-      unfolding throughPartial throughParity
-      rebuilt-elsewhere =
-          by-test (bit r m)
-          (λ b. rw (b, gathered-elsewhere (othersInside l m r) (others-inside-here l m r)))
-          (λ b. rw (b, bytes-elsewhere (parityChip l j) (r .parity) parity-elsewhere, gathered-elsewhere (othersUnderParity l m r) (under-parity-here l m r b)))
+      through-partial-elsewhere : throughPartial l y′ z j r m ≡ throughPartial l y z j r m
+      unfolding throughPartial
+      through-partial-elsewhere = rw (gathered-elsewhere (othersInside l m r) (others-inside-here l m r))
 
-    member-elsewhere : (j m : ℕ) (r : Record) → fetchMember l y′ z lost j m r ≡ fetchMember l y z lost j m r
-    member-elsewhere j m r = elim (ℕ-discrete (r .current m) (none l)) [
-      | yes q ↦ member-unwritten y′ z lost j m r q ∙ sym (member-unwritten y z lost j m r q)
-      | no d ↦ elim (ℕ-discrete (memberChip l j m) lost) [
-        | yes q ↦ rw (member-rebuilt y′ z lost j m r d q, member-rebuilt y z lost j m r d q) (rebuilt-elsewhere j m r q)
-        | no q ↦ rw (member-direct y′ z lost j m r d q, member-direct y z lost j m r d q, elsewhere (memberChip l j m) q)
+    parity-elsewhere : parityChip l j ≡ lost → parityAnew l y′ z j r ≡ parityAnew l y z j r
+    unfolding parityAnew
+    parity-elsewhere e =
+        rw (gathered-cong l y y′ j (underParity l r) (underParity l r)
+        (λ m b. bytes-elsewhere (memberChip l j m) (underParity l r m) (λ q. member-chip-other l j m (q ∙ sym e))))
+
+    rebuilt-elsewhere : (role : Role) → chipIn l j role ≡ lost → rebuilt l y′ z j r role ≡ rebuilt l y z j r role
+    rebuilt-elsewhere (Current m) e =
+        by-test (bit r m) (λ t. rw t (through-partial-elsewhere m e)) (λ t. rw t (through-parity-elsewhere m e))
+    rebuilt-elsewhere (Old m) e = through-parity-elsewhere m e
+    rebuilt-elsewhere Parity e = parity-elsewhere e
+
+    role-elsewhere : (role : Role) → fetchRole l y′ z j r lost role ≡ fetchRole l y z j r lost role
+    role-elsewhere role = elim (ℕ-discrete (chipIn l j role) lost) [
+      | yes e ↦ elim (ℕ-discrete (numberIn l r role) (none l)) [
+        | yes q ↦ rw (role-none y′ z j r lost role q, role-none y z j r lost role q, bytes-none l y′ (chipIn l j role), bytes-none l y (chipIn l j role))
+        | no d ↦ rw (role-rebuilt y′ z j r lost role e d, role-rebuilt y z j r lost role e d) (rebuilt-elsewhere role e)
       ]
+      | no d ↦ rw (role-direct y′ z j r lost role d, role-direct y z j r lost role d, bytes-elsewhere (chipIn l j role) (numberIn l r role) d)
     ]
 
   -- a read depends on no page of the lost chip
   pub fetch-elsewhere : (s t : Images) (lost i : ℕ) → t .records ≡ s .records → t .slots ≡ s .slots
       → ((c : ℕ) → c ≢ lost → pageAt l (t .chips) c ≡ pageAt l (s .chips) c) → fetch l t lost i ≡ fetch l s lost i
-  unfolding fetch
+  unfolding fetch fetchMember fetchIn
   fetch-elsewhere s t lost i e q elsewhere =
-      rw (e, q)
-      (member-elsewhere (pageAt l (s .chips)) (pageAt l (t .chips)) (slotAt l (s .slots)) lost elsewhere (stripeOf l i) (memberOf l i)
-      (recordAt l (s .records) (stripeOf l i)))
+      rw (
+        e,
+        q,
+        role-elsewhere (pageAt l (s .chips)) (pageAt l (t .chips)) (slotAt l (s .slots)) lost elsewhere (stripeOf l i)
+            (recordAt l (s .records) (stripeOf l i)) (Current (memberOf l i)),
+      )
 
   pub fetch-unwritten : (s : Images) (lost i : ℕ) → recordAt l (s .records) (stripeOf l i) .current (memberOf l i) ≡ none l
       → fetch l s lost i ≡ unwritten l
-  unfolding fetch
-  fetch-unwritten s lost i e =
-      member-unwritten (pageAt l (s .chips)) (slotAt l (s .slots)) lost (stripeOf l i) (memberOf l i) (recordAt l (s .records) (stripeOf l i)) e
+  unfolding fetch fetchMember
+  fetch-unwritten s lost i e = rw (eq-eqb (recordAt l (s .records) (stripeOf l i) .current (memberOf l i)) (none l) e)
+
+  -- a page that was written is fetched
+  fetch-written : (s : Images) (lost i : ℕ) → recordAt l (s .records) (stripeOf l i) .current (memberOf l i) ≢ none l
+      → fetch l s lost i ≡ fetchIn l s lost (stripeOf l i) (Current (memberOf l i))
+  unfolding fetch fetchMember
+  fetch-written s lost i d = rw (ne-eqb (recordAt l (s .records) (stripeOf l i) .current (memberOf l i)) (none l) d)
 
   module _ (w : Within l) where
+    -- the bytes of a page that was written, where no chip is lost
     pub fetch-direct : (s : Images) (i : ℕ) → recordAt l (s .records) (stripeOf l i) .current (memberOf l i) ≢ none l
-        → fetch l s noChip i ≡ direct l (pageAt l (s .chips)) (stripeOf l i) (memberOf l i) (recordAt l (s .records) (stripeOf l i))
-    unfolding fetch
+        → fetch l s noChip i .bytes
+        ≡ bytesAt l (pageAt l (s .chips)) (memberChip l (stripeOf l i) (memberOf l i)) (recordAt l (s .records) (stripeOf l i) .current (memberOf l i))
+    unfolding fetchIn
     fetch-direct s i d =
-        member-direct (pageAt l (s .chips)) (slotAt l (s .slots)) noChip (stripeOf l i) (memberOf l i) (recordAt l (s .records) (stripeOf l i)) d
-        (chip-there l w (stripeOf l i) (memberOf l i) (member-fits l w i))
+        let j = stripeOf l i in
+        ap (λ (x : Fetched). x .bytes)
+        (fetch-written s noChip i d
+        ∙ page-there l w (pageAt l (s .chips)) (slotAt l (s .slots)) j (recordAt l (s .records) j) (Current (memberOf l i))
+        (member-chip-fits l j (memberOf l i) (member-fits l w i)))
 
-    module _ (s : Images) (sound : Sound l s) where
-      module _ (contents : Data l s) (j m : ℕ) (stripe : j < S) (member : m < N) where
-        abbrev r : Record
-        r = recordAt l (s .records) j
-
-        abbrev y : ℕ → ℕ → Page
-        y = pageAt l (s .chips)
-
-        abbrev z : ℕ → List ℕ
-        z = slotAt l (s .slots)
-
-        whole : Whole l y
-        whole = pages-whole l s (sound .chips)
-
-        record-sound : RecordSound l r
-        record-sound = sound .stripes .stripe j stripe
-
-        rebuilt-right : r .current m ≢ none l → rebuilt l y z j m r .bytes ≡ direct l y j m r .bytes
-        unfolding throughPartial throughParity
-        rebuilt-right d =
-            by-test (bit r m)
-            (λ b. rw b (rebuilt-inside l w y whole z j r record-sound (contents j stripe) m member b))
-            (λ b. rw b (rebuilt-outside l w y whole z j r record-sound (contents j stripe) m member b d))
-
-        member-any : (lost : ℕ) → fetchMember l y z lost j m r .bytes ≡ fetchMember l y z noChip j m r .bytes
-        member-any lost = elim (ℕ-discrete (r .current m) (none l)) [
-          | yes e ↦ rw (member-unwritten y z lost j m r e, member-unwritten y z noChip j m r e)
-          | no d ↦ rw (member-direct y z noChip j m r d (chip-there l w j m member)) (elim (ℕ-discrete (memberChip l j m) lost) [
-            | yes e ↦ rw (member-rebuilt y z lost j m r d e) (rebuilt-right d)
-            | no e ↦ rw (member-direct y z lost j m r d e)
-          ])
-        ]
+    module _ (s : Images) (sound : Sound l s) (contents : Data l s) where
+      -- a page in any role is the same with any chip lost
+      role-any : (lost j : ℕ) → j < S → (role : Role) → memberIn l role
+          → fetchIn l s lost j role .bytes ≡ bytesAt l (pageAt l (s .chips)) (chipIn l j role) (numberIn l (recordAt l (s .records) j) role)
+      unfolding fetchIn
+      role-any lost j stripe role member =
+          let y = pageAt l (s .chips) in
+          let z = slotAt l (s .slots) in
+          let r = recordAt l (s .records) j in
+          elim (ℕ-discrete (chipIn l j role) lost) [
+            | yes e ↦ elim (ℕ-discrete (numberIn l r role) (none l)) [
+              | yes q ↦ rw (role-none y z j r lost role q, q)
+              | no d ↦
+                  rw (role-rebuilt y z j r lost role e d)
+                  (rebuilt-right l w y (pages-whole l s (sound .chips)) z j r (sound .stripes .stripe j stripe) (contents j stripe) role member d)
+            ]
+            | no d ↦ rw (role-direct y z j r lost role d)
+          ]
 
       -- with any chip lost a read gives the same bytes
-      pub fetch-rebuilt : Data l s → (lost i : ℕ) → i < N * S → fetch l s lost i .bytes ≡ fetch l s noChip i .bytes
-      unfolding fetch
-      fetch-rebuilt contents lost i page = member-any contents (stripeOf l i) (memberOf l i) (stripe-fits l w i page) (member-fits l w i) lost
+      pub fetch-rebuilt : (lost i : ℕ) → i < N * S → fetch l s lost i .bytes ≡ fetch l s noChip i .bytes
+      fetch-rebuilt lost i page =
+          let r = recordAt l (s .records) (stripeOf l i) in
+          elim (ℕ-discrete (r .current (memberOf l i)) (none l)) [
+            | yes e ↦ rw (fetch-unwritten s lost i e, fetch-unwritten s noChip i e)
+            | no d ↦
+                rw (fetch-direct s i d, fetch-written s lost i d)
+                (role-any lost (stripeOf l i) (stripe-fits l w i page) (Current (memberOf l i)) (member-fits l w i))
+          ]

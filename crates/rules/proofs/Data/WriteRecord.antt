@@ -24,18 +24,20 @@ use Rattle.layout.proofs.Records.{SixMembers, six-members}
 use Rattle.layout.proofs.Pages.{page-number}
 use Rattle.layout.proofs.Rotations.{stripe-fits, member-fits}
 use Rattle.steps.specs.Store.{stripe, apply}
-use Rattle.rules.specs.Write.{newPartial, written}
-use Rattle.rules.specs.Read.{Fetched, fetch}
+use Rattle.rules.specs.Partial.{written}
+use Rattle.rules.specs.Fetch.{Fetched, underParity}
+use Rattle.rules.specs.Read.{fetch}
 use Rattle.rules.proofs.Soundness.Statements.{Usable, RecordSound, Sound}
 use Rattle.rules.proofs.Stores.Names.{main-member, side-member, unnamed-at}
 use Rattle.rules.proofs.Stores.Kept.{Kept}
 use Rattle.rules.proofs.Stores.Storing.{sound-stripe}
-use Rattle.rules.proofs.Data.Contents.{underParity, StripeData, Data, pages-whole}
+use Rattle.rules.proofs.Data.Contents.{StripeData, Data, bytes-page, pages-whole}
 use Rattle.rules.proofs.Data.Parity.{written-current, written-current-other, write-data}
 use Rattle.rules.proofs.Data.Rebuild.{fetch-direct}
 use Rattle.rules.proofs.Data.Carries.{Wrote, kept-carries}
 use Rattle.rules.proofs.Data.Entries.{written-six, written-sound, written-main, written-side}
 use Rattle.rules.proofs.Data.NewRecord.{NewPage, main-stamped, side-stamped, stored-chips, stored-here, stored-other, stored-copies, stored-data, stored-read}
+use Rattle.rules.proofs.Data.Feeds.{partialBytes}
 
 module _ (l : Layout) (u : Usable l) where
   open Layout l using (N, W, S, M)
@@ -46,7 +48,7 @@ module _ (l : Layout) (u : Usable l) where
       (page p i : ℕ) (xs : List ℕ) (inside : page < N * S) (whole : length xs ≡ W)
       (new : NewPage l t (memberChip l (stripeOf l page) (memberOf l page)) (stripeOf l page) p xs)
       (place : i < M + 1) (free : (j : ℕ) → j < S → recordAt l (t .records) j .slot ≢ i)
-      (partial : slotAt l (t .slots) i ≡ newPartial l (pageAt l (s .chips)) (slotAt l (s .slots)) (stripeOf l page) (memberOf l page) xs (recordAt l (s .records) (stripeOf l page)))
+      (partial : slotAt l (t .slots) i ≡ partialBytes l (pageAt l (s .chips)) (slotAt l (s .slots)) (stripeOf l page) (memberOf l page) xs (recordAt l (s .records) (stripeOf l page)))
       (few : hasSlot (recordAt l (t .records) (stripeOf l page)) ≡ false → countBelow S (slotted (recordAt l (t .records))) < M) where
     abbrev j : ℕ
     j = stripeOf l page
@@ -124,9 +126,9 @@ module _ (l : Layout) (u : Usable l) where
         still-few (written-main l y j r main side m p i (new .stamped)) (written-side l y j r main side m p i)
 
     -- the slot holds what a write on t would put there
-    new-partial : newPartial l (pageAt l (s .chips)) (slotAt l (s .slots)) j m xs (recordAt l (s .records) j)
-        ≡ newPartial l (pageAt l (t .chips)) (slotAt l (t .slots)) j m xs r
-    unfolding newPartial
+    new-partial : partialBytes l (pageAt l (s .chips)) (slotAt l (s .slots)) j m xs (recordAt l (s .records) j)
+        ≡ partialBytes l (pageAt l (t .chips)) (slotAt l (t .slots)) j m xs r
+    unfolding partialBytes
     new-partial =
         let same-record : recordAt l (s .records) j ≡ r = ap (λ (x : List ℕ). recordAt l x j) (sym same) in
         rw (same-record, chips)
@@ -142,8 +144,8 @@ module _ (l : Layout) (u : Usable l) where
 
     write-here : fetch l writtenImages noChip page .bytes ≡ xs
     write-here =
-        ap (λ (x : Fetched). x .bytes) (fetch-direct l (u .within) writtenImages page (rw new-current page-there))
-        ∙ rw (new-current, stored-chips l u t (k .sound) j fits r′ sound′ six) (new .bytes)
+        fetch-direct l (u .within) writtenImages page (rw new-current page-there)
+        ∙ rw (new-current, stored-chips l u t (k .sound) j fits r′ sound′ six) (bytes-page l (pageAt l (t .chips)) (memberChip l j m) p page-there ∙ new .bytes)
 
     -- another page is of another stripe, or another member
     same-current : (q : ℕ) → q ≢ page

@@ -20,17 +20,19 @@ use Rattle.layout.proofs.Rotations.{stripe-fits}
 use Rattle.steps.specs.declared.Counts.{Counts}
 use Rattle.rules.specs.declared.Reading.the-variants.{Done as ReadDone}
 use Rattle.rules.specs.Refusals.{lostNamed}
-use Rattle.rules.specs.Read.{Fetched, fetch}
+use Rattle.rules.specs.Fetch.{Fetched, underParity}
+use Rattle.rules.specs.Read.{fetch}
 use Rattle.rules.specs.Calls.{ReadOutcome, readCall}
 use Rattle.rules.specs.Book.{Book, finished}
 use Rattle.rules.proofs.Soundness.Statements.{Usable, SoundBut, Sound}
 use Rattle.rules.proofs.Soundness.Accepted.{read-passes}
 use Rattle.rules.proofs.Stores.Kept.{CopiesOf, no-copies-yet}
-use Rattle.rules.proofs.Data.Contents.{Data, bytes-none, gathered-none, underParity}
+use Rattle.rules.proofs.Data.Contents.{Data, bytes-none, gathered-none}
 use Rattle.rules.proofs.Data.Rebuild.{fetch-unwritten, fetch-rebuilt}
 use Rattle.rules.proofs.Data.Carries.{Carries, Wrote}
 use Rattle.rules.proofs.Lists.Fresh.{Fresh}
 use Rattle.rules.proofs.Lists.FreshSound.{fresh-sound}
+use Rattle.rules.specs.Sound.{isLost}
 
 module _ (l : Layout) where
   open Layout l using (N, W, S)
@@ -95,7 +97,7 @@ module _ (l : Layout) where
     }
 
     -- Of images t that a read naming `lost` takes for s, the read is not refused and gives the book's page.
-    pub reads-book : (s t : Images) (book : Book) → Inv s book → (lost : ℕ) → lostNamed l lost ≡ true → SoundBut l lost t
+    pub reads-book : (s t : Images) (book : Book) → Inv s book → (lost : ℕ) → lostNamed l lost ≡ true → SoundBut l (isLost lost) t
         → ((i : ℕ) → fetch l t lost i ≡ fetch l s lost i)
         → (i : ℕ) → i < N * S → (buffer : List ℕ) → length buffer ≡ W
         → (n : Counts) × (_≡_ {A = ReadOutcome} (readCall l t lost i buffer) (record { answer = ReadDone n; buffer = book i }))

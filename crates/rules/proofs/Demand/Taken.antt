@@ -8,7 +8,7 @@ use mathlib.Core.Bool.{true}
 use mathlib.Core.List.{List}
 use lib.ListN.{length}
 use lib.Dec.{eqb}
-use borrow.Author.Tests.{le-leb}
+use borrow.Author.Tests.{le-leb, eqb-false}
 use Rattle.bytes.specs.Units.{unit, unitPut}
 use Rattle.bytes.proofs.Units.{unit-other, length-unitPut}
 use Rattle.ranges.proofs.Tests.{or-right}
@@ -29,6 +29,7 @@ use Rattle.rules.proofs.Soundness.Accepted.{write-accepted, commit-acce
 use Rattle.rules.proofs.Data.Rebuild.{fetch-elsewhere}
 use Rattle.rules.proofs.Lists.EachCall.{open-lost}
 use Rattle.rules.proofs.Demand.Invariant.{Inv, reads-book}
+use Rattle.rules.specs.Sound.{isLost}
 
 module _ (l : Layout) where
   open Layout l using (N)
@@ -68,13 +69,13 @@ module _ (l : Layout) where
   }
 
   -- soundness asks nothing of the chip that is named
-  taken-sound : (c : ℕ) (s t : Images) → SoundBut l c s → Taken c s t → SoundBut l c t
+  taken-sound : (c : ℕ) (s t : Images) → SoundBut l (isLost c) s → Taken c s t → SoundBut l (isLost c) t
   taken-sound c s t f k = record {
     chips = k .chips;
     records = ap length (k .records) ∙ f .records;
     slots = ap length (k .slots) ∙ f .slots;
     stripes = rw (k .records) (f .stripes);
-    chip = λ c′ fits other. rw (k .records, k .others c′ other) (f .chip c′ fits other);
+    chip = λ c′ fits other. rw (k .records, k .others c′ (eqb-false c′ c other)) (f .chip c′ fits other);
   }
 
   module _ (u : Usable l) (c : ℕ) (chip : c ≤ N) where
@@ -87,7 +88,7 @@ module _ (l : Layout) where
     -- the read of each page, with that chip named
     pub taken-reads : (s : Images) (x : World) → Inv l s (x .book) → Taken c s (x .images) → ReadsTheBook l c x
     taken-reads s x f k =
-        reads-book l u s (x .images) (x .book) f c is-named (taken-sound c s (x .images) (sound-but l (u .within) s c (f .sound)) k)
+        reads-book l u s (x .images) (x .book) f c is-named (taken-sound c s (x .images) (sound-but l (u .within) s (isLost c) (f .sound)) k)
         (λ i. fetch-elsewhere l s (x .images) c i (k .records) (k .slots) (k .others))
 
     -- a call that names it changes nothing

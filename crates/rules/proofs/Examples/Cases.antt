@@ -11,7 +11,7 @@ use Rattle.layout.specs.Images.{Images, lengths}
 use Rattle.layout.proofs.Rows.{chipOf, parity-chips, page-chips, Sized, most-pages, too-many-pages, most-stripes, too-many-stripes}
 use Rattle.rules.specs.declared.Refusal.the-variants.{Geometry}
 use Rattle.rules.specs.declared.Check.the-variants.{Passed}
-use Rattle.rules.specs.Commit.{costOf}
+use Rattle.rules.specs.Costs.{costOf}
 use Rattle.rules.specs.Refusals.{refusalNumber, checked, buffersRows}
 use Rattle.rules.specs.Calls.{verdict, done, formatCall}
 use Rattle.rules.proofs.Soundness.Accepted.{buffers-pass}

@@ -22,9 +22,11 @@ use Rattle.steps.specs.Store.{program, slot, stripe, apply}
 use Rattle.steps.specs.Steps.{plain, andThen, applyAll, noCounts, counted, countedAll}
 use Rattle.steps.proofs.View.{erased-clean}
 use Rattle.rules.specs.Blocks.{cleanIn, cleanBlock}
-use Rattle.rules.specs.Place.{openBlock, placeOf, roomSteps, atPlace, placed}
+use Rattle.rules.specs.Place.{openBlock, placeOf}
+use Rattle.rules.specs.Room.{roomSteps, atPlace, placed}
 use Rattle.rules.specs.declared.Reading.the-variants.{Done as ReadDone}
-use Rattle.rules.specs.Write.{lowestFreeSlot, freeSlot, commitOwed, owedSteps, dataPage, newPartial, newPartialReads, written, slotSteps, writeAt, writeMember, writeSteps}
+use Rattle.rules.specs.Partial.{newPartial, lowestFreeSlot, freeSlot, dataPage, written, slotSteps, writeAt}
+use Rattle.rules.specs.Write.{commitOwed, owedSteps, writeMember, writeSteps}
 use Rattle.rules.specs.Read.{fetchMember, fetch}
 use Rattle.rules.specs.declared.Answer.the-variants.{Done, Cut}
 use Rattle.rules.specs.Calls.{ReadOutcome, verdict, done, run, formatCall, writeCall, readCall}
@@ -105,7 +107,7 @@ module _ (l : Layout) (u : Usable l) (s : Images) (f : Fresh l s) where
     -- a write of it is three stores: the page, the slot, the record
     pub three-stores : (xs : List ℕ) → writeSteps l i xs s
         ≡ plain (program chip (pageIn l 0 0) (dataPage l j m xs)) ∷ plain (slot 0 xs) ∷ plain (stripe j (written l m (pageIn l 0 0) 0 (emptyRecord l))) ∷ []
-    unfolding writeSteps writeMember andThen applyAll apply atPlace placed whenFound writeAt slotSteps newPartial newPartialReads emptyRecord
+    unfolding writeSteps writeMember andThen applyAll apply atPlace placed whenFound writeAt slotSteps newPartial emptyRecord
     three-stores xs =
         let fits = page-chip-fits l (u .within) i in
         rw (no-commit-owed j stripe-inside, nothing-collected chip fits, first-place chip fits, lowest-slot, f .stripe j stripe-inside)

@@ -18,9 +18,10 @@ use Rattle.steps.proofs.View.{wiped}
 use Rattle.steps.proofs.Prefixes.{Leads, leads-nil, leads-then, leads-weaken, Closes, closes-then}
 use Rattle.rules.specs.Names.{named}
 use Rattle.rules.specs.Blocks.{cleanIn, usedIn, unnamedIn, cleanBlock, fullBlock, lowestCleanBlock}
-use Rattle.rules.specs.Collect.{collectable, namedCount, victimOf, copySteps, collectSteps}
+use Rattle.rules.specs.Collect.{collectable, namedCount, victimOf, copySteps, copyFeed, collectSteps}
 use Rattle.rules.specs.Open.{finishSteps}
-use Rattle.rules.specs.Place.{placeOf, roomSteps, atPlace, placed}
+use Rattle.rules.specs.Place.{placeOf}
+use Rattle.rules.specs.Room.{roomSteps, atPlace, placed}
 use Rattle.rules.proofs.Soundness.Statements.{Usable, ChipSound, Sound, sound-chip, rest-collects}
 use Rattle.rules.proofs.Stores.Kept.{Kept, kept-refl, kept-trans}
 use Rattle.rules.proofs.Stores.Chips.{wiped-clean, wiped-other}
@@ -96,7 +97,7 @@ module _ (l : Layout) (u : Usable l) where
       unfolding collectSteps whenFound
       collect-leads =
           rw (victim, destination .1)
-          (leads-then l (Kept l) (kept-trans l) (AllCopied l c v (destination .0)) (HasPlace l c) (copySteps l c x r v (destination .0)) (finishSteps l) s
+          (leads-then l (Kept l) (kept-trans l) (AllCopied l c v (destination .0)) (HasPlace l c) (copySteps l c x (copyFeed l c s) r v (destination .0)) (finishSteps l) s
           (copies-lead l u s f c v (destination .0) chosen)
           (λ t k a.
           leads-weaken l (Kept l) (Kept l) (Ended l t) (HasPlace l c) (finishSteps l t) t (λ w h. h) (λ w h e. cleared t w a e)

@@ -19,7 +19,9 @@ use Rattle.layout.proofs.Pages.{none-fits}
 use Rattle.steps.specs.Store.{program, stripe, apply}
 use Rattle.steps.specs.Steps.{Step, plain}
 use Rattle.steps.proofs.Prefixes.{Closes, closes-two}
-use Rattle.rules.specs.Commit.{newParity, newParityReads, parityPage, committed, commitAt, commitSteps}
+use Rattle.rules.specs.Fetch.{fetchIn}
+use Rattle.rules.specs.Parity.{parityPage, committed, commitAt}
+use Rattle.rules.specs.Commit.{commitSteps}
 use Rattle.rules.proofs.Soundness.Statements.{Usable, Sound}
 use Rattle.rules.proofs.Stores.Names.{kind-parity, stamp-parity}
 use Rattle.rules.proofs.Stores.Kept.{Kept, kept-refl, kept-trans}
@@ -30,6 +32,7 @@ use Rattle.rules.proofs.Data.Entries.{new-parity-length}
 use Rattle.rules.proofs.Space.Room.{PlaceAt}
 use Rattle.rules.proofs.Lists.Filling.{fill-kept, fill-new}
 use Rattle.rules.proofs.Lists.Collecting.{placed-closes}
+use Rattle.rules.proofs.Data.Feeds.{parity-fed, parityBytes, parityReads}
 
 -- a step that stores the record of stripe j
 abbrev pub StoresRecord : ℕ → Step → Type 0
@@ -66,7 +69,7 @@ module _ (l : Layout) (u : Usable l) where
     module _ (t : Images) (g : Sound l t) (rest : collectionAt l (t .records) .phase ≡ 0) (slot : hasSlot (recordAt l (t .records) j) ≡ true)
         (p : ℕ) (o : PlaceAt l (pageAt l (t .chips) (parityChip l j)) p) where
       abbrev page : Page
-      page = parityPage l j (newParity l (pageAt l (t .chips)) (slotAt l (t .slots)) j (recordAt l (t .records) j))
+      page = parityPage l j (parityBytes l (pageAt l (t .chips)) (slotAt l (t .slots)) j (recordAt l (t .records) j))
 
       page-fits : PageFits l page
       page-fits = record {
@@ -85,7 +88,7 @@ module _ (l : Layout) (u : Usable l) where
       unfolding apply
       same-records = refl
 
-      new : NewPage l t₁ (parityChip l j) j p (newParity l (pageAt l (t .chips)) (slotAt l (t .slots)) j (recordAt l (t .records) j))
+      new : NewPage l t₁ (parityChip l j) j p (parityBytes l (pageAt l (t .chips)) (slotAt l (t .slots)) j (recordAt l (t .records) j))
       new =
           fill-new l u t g rest (parityChip l j) (parity-chip-fits l j) p o page page-fits (omega arith) j refl (sym (kind-parity l j)) (sym (stamp-parity l j))
 
@@ -99,10 +102,11 @@ module _ (l : Layout) (u : Usable l) where
       }
 
       commit-fills : Closes l (Kept l) (Committed l j) (StoresRecord j) (commitAt l j p t) t
-      unfolding commitAt apply
+      unfolding commitAt fetchIn apply
       commit-fills =
-          closes-two l (Kept l) (Committed l j) (StoresRecord j) (record { reads = newParityReads l (recordAt l (t .records) j); store = program (parityChip l j) p page })
-          (plain (stripe j (committed l p (recordAt l (t .records) j)))) t (kept-refl l t g) first last (committed l p (recordAt l (t .records) j), refl)
+          rw (parity-fed l (u .within) (pageAt l (t .chips)) (slotAt l (t .slots)) j (recordAt l (t .records) j))
+          (closes-two l (Kept l) (Committed l j) (StoresRecord j) (record { reads = parityReads l (recordAt l (t .records) j); store = program (parityChip l j) p page })
+          (plain (stripe j (committed l p (recordAt l (t .records) j)))) t (kept-refl l t g) first last (committed l p (recordAt l (t .records) j), refl))
 
     -- a commit from its first store to its last, with the collection that it may need
     pub commit-closes : (s : Images) → Sound l s → collectionAt l (s .records) .phase ≡ 0 → hasSlot (recordAt l (s .records) j) ≡ true

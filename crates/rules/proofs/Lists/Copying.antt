@@ -16,24 +16,28 @@ use Rattle.layout.specs.Layout.{Layout, none, pageIn, inBlock}
 use Rattle.layout.specs.Page.{Page, cleanKind, clean, pageAt}
 use Rattle.layout.specs.Record.{Record, recordAt}
 use Rattle.layout.specs.Collection.{Collection, collectionAt}
-use Rattle.layout.specs.Images.{Images}
+use Rattle.layout.specs.Images.{Images, slotAt}
 use Rattle.layout.proofs.Codec.{PageFits}
 use Rattle.layout.proofs.Pages.{page-in-fits, same-place, in-own-block, in-other-block, page-number}
 use Rattle.layout.proofs.Pages.{none-fits}
 use Rattle.steps.specs.Store.{program, collection, apply}
 use Rattle.steps.specs.Steps.{plain, stepsBelow, applyAll}
 use Rattle.steps.proofs.Prefixes.{Leads, leads-nil, leads-one, leads-cons, leads-append, leads-below}
-use Rattle.rules.specs.Names.{named}
+use Rattle.steps.proofs.Lengths.{below-cong}
+use Rattle.rules.specs.Names.{roleOf, named}
 use Rattle.rules.specs.Blocks.{cleanIn, namedIn, unnamedIn, cleanBlock}
 use Rattle.rules.specs.Sound.{collecting, twinIn}
-use Rattle.rules.specs.Collect.{phase, copyOf, copyFrom, copySteps}
+use Rattle.rules.specs.Gather.{readsAt}
+use Rattle.rules.specs.Fetch.{Feed, fetchIn}
+use Rattle.rules.specs.Collect.{phase, copyOf, copyFrom, copySteps, copyFeed}
 use Rattle.rules.proofs.Soundness.Statements.{Usable, CollectionSound, ChipSound, OneTwin, Sound, sound-chip}
-use Rattle.rules.proofs.Stores.Names.{named-by, name-stamped, named-used, clean-block-unnamed}
+use Rattle.rules.proofs.Stores.Names.{role-is, named-by, name-stamped, named-used, clean-block-unnamed}
 use Rattle.rules.proofs.Stores.Chips.{Fillable}
 use Rattle.rules.proofs.Stores.Kept.{Copies, Kept, kept-refl, kept-trans, no-copies-yet}
 use Rattle.rules.proofs.Stores.Twins.{twin-is, is-twin}
 use Rattle.rules.proofs.Stores.Storing.{kept-program, kept-collection, program-view, collection-view, collection-records}
-use Rattle.rules.proofs.Data.Contents.{pages-whole}
+use Rattle.rules.proofs.Data.Contents.{bytes-page, pages-whole}
+use Rattle.rules.proofs.Data.Feeds.{page-there}
 use Rattle.rules.proofs.Space.Places.{clean-at}
 
 module _ (l : Layout) where
@@ -58,7 +62,7 @@ module _ (l : Layout) where
     pub outside : (p : ℕ) → inBlock l d p ≡ false → pageAt l (t .chips) c p ≡ pageAt l (s .chips) c p
     pub filled : (k : ℕ) → k < countBelow i (namedIn l (recordAt l (s .records)) c v)
         → (n : ℕ) × (n < i) × (namedIn l (recordAt l (s .records)) c v n ≡ true) × (countBelow n (namedIn l (recordAt l (s .records)) c v) ≡ k)
-        × (pageAt l (t .chips) c (pageIn l d k) ≡ copyOf (pageIn l v n) (pageAt l (s .chips) c (pageIn l v n)))
+        × (pageAt l (t .chips) c (pageIn l d k) ≡ copyOf (pageIn l v n) (pageAt l (s .chips) c (pageIn l v n)) (pageAt l (s .chips) c (pageIn l v n) .bytes))
     pub ahead : (k : ℕ) → countBelow i (namedIn l (recordAt l (s .records)) c v) ≤ k → k < K → cleanIn l (pageAt l (t .chips) c) d k ≡ true
 
   -- the copies are made: phase 2, and the destination's last page is clean
@@ -67,6 +71,28 @@ module _ (l : Layout) where
     pub last : ℕ
     pub fits : last < K
     pub is-clean : cleanIn l (pageAt l (t .chips) c) d last ≡ true
+
+-- a page as it stands on its chip, with one read
+abbrev pub asStands : (ℕ → Page) → ℕ → Feed
+asStands x p = record { bytes = x p .bytes; reads = 1 }
+
+-- a page that is named is copied as it stands
+pub copied-as-stands : (l : Layout) (u : Usable l) (s : Images) → Sound l s → (c : ℕ) → c < l .N + 1 → (p : ℕ) → p ≢ none l
+    → named l (recordAt l (s .records)) c p ≡ true → copyFeed l c s p ≡ asStands (pageAt l (s .chips) c) p
+unfolding copyFeed fetchIn readsAt
+copied-as-stands l u s f c chip p is-page n =
+    let r = recordAt l (s .records) in
+    let (j, low, names-it) = named-by l r c p n in
+    let stripe = name-stamped l r (pageAt l (s .chips) c) c (collectionAt l (s .records)) (sound-chip l u s f c chip) p j low is-page names-it .stripe in
+    let (on, number) = role-is l r c p j names-it is-page in
+    rw (
+      stripe,
+      page-there l (u .within) (pageAt l (s .chips)) (slotAt l (s .slots)) j (r j) (roleOf l c j (r j) p) (rw on chip),
+      on,
+      number,
+      bytes-page l (pageAt l (s .chips)) c p is-page,
+      ne-eqb p (none l) is-page,
+    )
 
 module _ (l : Layout) (u : Usable l) where
   open Layout l using (K)
@@ -117,7 +143,7 @@ module _ (l : Layout) (u : Usable l) where
       original-used : x p .kind ≢ cleanKind
       original-used e = both (clean (x p)) (eq-eqb (x p .kind) cleanKind e) (named-used l r x c (collectionAt l (s .records)) here p is-page n)
 
-      copy-fits : PageFits l (copyOf p (x p))
+      copy-fits : PageFits l (copyOf p (x p) (x p .bytes))
       copy-fits =
           let j = named-by l r c p n in
           let t = name-stamped l r x c (collectionAt l (s .records)) here p (j .0) (j .1) is-page (j .2) in
@@ -158,7 +184,7 @@ module _ (l : Layout) (u : Usable l) where
       q = pageIn l d k
 
       abbrev copy : Page
-      copy = copyOf (pageIn l v i) (x (pageIn l v i))
+      copy = copyOf (pageIn l v i) (x (pageIn l v i)) (x (pageIn l v i) .bytes)
 
       abbrev y : ℕ → Page
       y = pageAt l (t .chips) c
@@ -209,7 +235,7 @@ module _ (l : Layout) (u : Usable l) where
             rw (other-page k′ fits (omega (arith, count-pass i isNamed n))) (m .ahead k′ (omega (arith, count-pass i isNamed n)) fits);
       }
 
-    copy-leads : (i : ℕ) → i < K → (t : Images) → Kept l s₁ t → Copied l s c v d i t → Leads l (Kept l) (Copied l s c v d (suc i)) (copyFrom l c x r v d i) t
+    copy-leads : (i : ℕ) → i < K → (t : Images) → Kept l s₁ t → Copied l s c v d i t → Leads l (Kept l) (Copied l s c v d (suc i)) (copyFrom l c x (asStands x) r v d i) t
     unfolding copyFrom
     copy-leads i place t h m =
         by-test (isNamed i)
@@ -230,9 +256,9 @@ module _ (l : Layout) (u : Usable l) where
         })))
 
     -- the copies of the places below i, after phase 1
-    pub copies-below : (i : ℕ) → i ≤ K → Leads l (Kept l) (Copied l s c v d i) (stepsBelow i (copyFrom l c x r v d)) s₁
+    pub copies-below : (i : ℕ) → i ≤ K → Leads l (Kept l) (Copied l s c v d i) (stepsBelow i (copyFrom l c x (asStands x) r v d)) s₁
     copies-below i most =
-        leads-below l (Kept l) (kept-trans l) (Copied l s c v d) i (copyFrom l c x r v d) s₁ (kept-refl l s₁ (first .sound)) begun
+        leads-below l (Kept l) (kept-trans l) (Copied l s c v d) i (copyFrom l c x (asStands x) r v d) s₁ (kept-refl l s₁ (first .sound)) begun
         (λ k low. copy-leads k (omega arith))
 
     -- all copies are made, on images t
@@ -251,7 +277,7 @@ module _ (l : Layout) (u : Usable l) where
         ranked : rank < countBelow K isNamed
         ranked = omega (arith, count-pass i isNamed n, count-mono (suc i) K isNamed place)
 
-        is-copy : z (pageIn l d rank) ≡ copyOf (pageIn l v i) (x (pageIn l v i))
+        is-copy : z (pageIn l d rank) ≡ copyOf (pageIn l v i) (x (pageIn l v i)) (x (pageIn l v i) .bytes)
         is-copy =
             let (a, less, is, cnt, e) = m .filled rank ranked in
             let same : a ≡ i = count-same isNamed a i is n cnt in
@@ -313,15 +339,28 @@ module _ (l : Layout) (u : Usable l) where
         is-clean = m .ahead (K - 1) (omega (arith, fewer)) (omega (arith, u .within .places-low));
       }
 
-    -- the stores of the first half, in order
-    pub copies-lead : Leads l (Kept l) (AllCopied l c v d) (copySteps l c x r v d) s
+    stand-lead : Leads l (Kept l) (AllCopied l c v d) (copySteps l c x (asStands x) r v d) s
     unfolding copySteps
-    copies-lead =
+    stand-lead =
         leads-cons l (Kept l) (kept-trans l) (AllCopied l c v d) (plain (collection (phase 1 c v d)))
-        (stepsBelow K (copyFrom l c x r v d) ++ (plain (collection (phase 2 c v d)) ∷ [])) s (kept-refl l s f) first
-        (leads-append l (Kept l) (kept-trans l) (Copied l s c v d K) (AllCopied l c v d) (stepsBelow K (copyFrom l c x r v d)) (plain (collection (phase 2 c v d)) ∷ []) s₁
+        (stepsBelow K (copyFrom l c x (asStands x) r v d) ++ (plain (collection (phase 2 c v d)) ∷ [])) s (kept-refl l s f) first
+        (leads-append l (Kept l) (kept-trans l) (Copied l s c v d K) (AllCopied l c v d) (stepsBelow K (copyFrom l c x (asStands x) r v d)) (plain (collection (phase 2 c v d)) ∷ []) s₁
         (copies-below K (le-refl K))
         (λ h m.
-        leads-one l (Kept l) (kept-trans l) (AllCopied l c v d) (plain (collection (phase 2 c v d))) (applyAll l (stepsBelow K (copyFrom l c x r v d)) s₁)
-        (kept-refl l (applyAll l (stepsBelow K (copyFrom l c x r v d)) s₁) (h .sound)) (second (applyAll l (stepsBelow K (copyFrom l c x r v d)) s₁) (h .sound) m)
-        (all-copied (applyAll l (stepsBelow K (copyFrom l c x r v d)) s₁) (h .sound) m)))
+        leads-one l (Kept l) (kept-trans l) (AllCopied l c v d) (plain (collection (phase 2 c v d))) (applyAll l (stepsBelow K (copyFrom l c x (asStands x) r v d)) s₁)
+        (kept-refl l (applyAll l (stepsBelow K (copyFrom l c x (asStands x) r v d)) s₁) (h .sound)) (second (applyAll l (stepsBelow K (copyFrom l c x (asStands x) r v d)) s₁) (h .sound) m)
+        (all-copied (applyAll l (stepsBelow K (copyFrom l c x (asStands x) r v d)) s₁) (h .sound) m)))
+
+    -- the copies are made of the pages as they stand
+    pub copies-as-stand : copySteps l c x (copyFeed l c s) r v d ≡ copySteps l c x (asStands x) r v d
+    unfolding copySteps copyFrom
+    copies-as-stand =
+        rw (below-cong K (copyFrom l c x (copyFeed l c s) r v d) (copyFrom l c x (asStands x) r v d)
+        (λ i place.
+        by-test (isNamed i)
+        (λ n. rw (n, copied-as-stands l u s f c (o .chip) (pageIn l v i) (is-page i place n) n))
+        (λ n. rw n)))
+
+    -- the stores of the first half, in order
+    pub copies-lead : Leads l (Kept l) (AllCopied l c v d) (copySteps l c x (copyFeed l c s) r v d) s
+    copies-lead = rw copies-as-stand stand-lead

@@ -6,10 +6,10 @@ use mathlib.Core.Logic.{_≢_}
 use mathlib.Core.Bool.{true, false}
 use mathlib.Core.List.{[], _∷_}
 use lib.Dec.{eqb}
-use borrow.Author.Tests.{eqb-true, eqb-false}
+use borrow.Author.Tests.{eqb-true, eqb-false, ne-eqb}
 use Rattle.ranges.proofs.Looks.{by-test}
 use Rattle.ranges.proofs.Updates.{at-same}
-use Rattle.layout.specs.Layout.{Layout, pageIn}
+use Rattle.layout.specs.Layout.{Layout, pageIn, noChip}
 use Rattle.layout.specs.Page.{Page, pageAt}
 use Rattle.layout.specs.Record.{recordAt}
 use Rattle.layout.specs.Collection.{Collection, collectionAt, idle}
@@ -67,7 +67,7 @@ module _ (l : Layout) where
         clean-on : (c′ : ℕ) → c′ < N + 1 → (b′ : ℕ) × (b′ < B) × (cleanBlock l (pageAt l (t .chips) c′) b′ ≡ true)
         clean-on c′ fits = by-test (eqb c c′)
             (λ e. (b, block, rw (← eqb-true c c′ e, view) (wiped-clean l b (pageAt l (s .chips) c))))
-            (λ e. first .sound .chip c′ fits (omega (arith, u .within .members-high)) .spare
+            (λ e. first .sound .chip c′ fits (ne-eqb c′ noChip (omega (arith, u .within .members-high))) .spare
             (rw same-collection (not-collecting co c′ (eqb-false c c′ e))))
 
         second : Kept l t (apply l (collection idle) t)

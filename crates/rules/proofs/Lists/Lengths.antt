@@ -21,10 +21,15 @@ use Rattle.steps.specs.Steps.{Step, plain, applyAll, andThen, thenBelow}
 use Rattle.steps.proofs.Lengths.{length-below, length-then-below}
 use Rattle.rules.specs.Format.{eraseChip, eraseBlock, emptyStripe, formatSteps}
 use Rattle.rules.specs.Blocks.{namedIn, lowestCleanBlock}
-use Rattle.rules.specs.Collect.{copyOf, copyFrom, copySteps, victimOf, collectSteps}
-use Rattle.rules.specs.Place.{placeOf, roomSteps, atPlace, placed}
-use Rattle.rules.specs.Commit.{cheapest, commitAt, commitSteps}
-use Rattle.rules.specs.Write.{commitOwed, owedSteps, dataPage, lowestFreeSlot, slotStores, slotSteps, writeAt, writeMember, writeSteps}
+use Rattle.rules.specs.Fetch.{fed}
+use Rattle.rules.specs.Collect.{copyOf, copyFrom, copySteps, copyFeed, victimOf, collectSteps}
+use Rattle.rules.specs.Place.{placeOf}
+use Rattle.rules.specs.Room.{roomSteps, atPlace, placed}
+use Rattle.rules.specs.Costs.{cheapest}
+use Rattle.rules.specs.Parity.{commitAt}
+use Rattle.rules.specs.Commit.{commitSteps}
+use Rattle.rules.specs.Partial.{dataPage, lowestFreeSlot, slotStores, slotSteps, writeAt}
+use Rattle.rules.specs.Write.{commitOwed, owedSteps, writeMember, writeSteps}
 use Rattle.rules.specs.Open.{due, moveStep, moveFrom, moveSteps, ending, finishOf, finishSteps}
 
 at-most-one : (b : Bool) (x : Step) → length (cond b (x ∷ []) []) ≤ 1
@@ -70,22 +75,22 @@ module _ (l : Layout) where
       let co = collectionAt l (s .records) in
       finish-of s co (eqb (co .phase) 1) (eqb (co .phase) 2)
 
-  copy-length : (c v d i : ℕ) (s : Images) → length (copyFrom l c (pageAt l (s .chips) c) (recordAt l (s .records)) v d i) ≤ 1
+  copy-length : (c v d i : ℕ) (s : Images) → length (copyFrom l c (pageAt l (s .chips) c) (copyFeed l c s) (recordAt l (s .records)) v d i) ≤ 1
   unfolding copyFrom
   copy-length c v d i s =
       let x = pageAt l (s .chips) c in
       let r = recordAt l (s .records) in
       at-most-one (namedIn l r c v i)
-      (record { reads = 1; store = program c (pageIn l d (countBelow i (namedIn l r c v))) (copyOf (pageIn l v i) (x (pageIn l v i))) })
+      (fed (copyFeed l c s (pageIn l v i)) (λ xs. program c (pageIn l d (countBelow i (namedIn l r c v))) (copyOf (pageIn l v i) (x (pageIn l v i)) xs)))
 
   collect-of : (c : ℕ) (s : Images) (victim destination : Found)
-      → length (whenFound victim (λ v. whenFound destination (λ d. andThen l (copySteps l c (pageAt l (s .chips) c) (recordAt l (s .records)) v d) (finishSteps l) s) []) []) ≤ 2 * K + 4
+      → length (whenFound victim (λ v. whenFound destination (λ d. andThen l (copySteps l c (pageAt l (s .chips) c) (copyFeed l c s) (recordAt l (s .records)) v d) (finishSteps l) s) []) []) ≤ 2 * K + 4
   unfolding whenFound andThen copySteps
   collect-of c s (At v) (At d) =
       let x = pageAt l (s .chips) c in
       let r = recordAt l (s .records) in
-      let copies = rw mul-one at (length-below 1 K (copyFrom l c x r v d) (λ i low. copy-length c v d i s)) in
-      let rest = finish-length (applyAll l (copySteps l c x r v d) s) in
+      let copies = rw mul-one at (length-below 1 K (copyFrom l c x (copyFeed l c s) r v d) (λ i low. copy-length c v d i s)) in
+      let rest = finish-length (applyAll l (copySteps l c x (copyFeed l c s) r v d) s) in
       rw (length-append, length-append) (omega arith)
   collect-of c s (At v) Nothing = omega arith
   collect-of c s Nothing destination = omega arith

@@ -26,9 +26,11 @@ use Rattle.layout.proofs.Pages.{none-fits}
 use Rattle.steps.specs.Store.{program, slot, stripe, apply}
 use Rattle.steps.specs.Steps.{plain}
 use Rattle.steps.proofs.Prefixes.{Leads, leads-nil, leads-one, Closes, closes-two, closes-then, closes-leads, closes-weaken}
-use Rattle.rules.specs.Write.{commitOwed, owedSteps, dataPage, lowestFreeSlot, newPartial, written, slotSteps, writeAt, writeMember, writeSteps}
+use Rattle.rules.specs.Fetch.{fetchIn}
+use Rattle.rules.specs.Partial.{dataPage, lowestFreeSlot, written, slotSteps, writeAt}
+use Rattle.rules.specs.Write.{commitOwed, owedSteps, writeMember, writeSteps}
 use Rattle.rules.specs.Commit.{commitSteps}
-use Rattle.rules.specs.Place.{placed}
+use Rattle.rules.specs.Room.{placed}
 use Rattle.rules.proofs.Soundness.Statements.{Usable, Sound}
 use Rattle.rules.proofs.Stores.Names.{kind-member, stamp-member}
 use Rattle.rules.proofs.Stores.Kept.{Kept, kept-refl, kept-trans}
@@ -41,6 +43,7 @@ use Rattle.rules.proofs.Space.Room.{PlaceAt, free-slot, stripe-to-commi
 use Rattle.rules.proofs.Lists.Filling.{fill-kept, fill-new}
 use Rattle.rules.proofs.Lists.Collecting.{placed-closes}
 use Rattle.rules.proofs.Lists.Committing.{StoresRecord, Committed, kept-count, commit-closes}
+use Rattle.rules.proofs.Data.Feeds.{partial-fed, partialBytes}
 
 module _ (l : Layout) where
   open Layout l using (S, M)
@@ -117,7 +120,7 @@ module _ (l : Layout) (u : Usable l) (page : ℕ) (inside : page < l .N * l .S) 
     slot-found = free-slot l (u .within) r (collectionAt l (t .records)) (g .stripes)
 
     abbrev partial : List ℕ
-    partial = newPartial l (pageAt l (t .chips)) (slotAt l (t .slots)) j m xs (r j)
+    partial = partialBytes l (pageAt l (t .chips)) (slotAt l (t .slots)) j m xs (r j)
 
     partial-length : length partial ≡ W
     partial-length = new-partial-length l (u .within) t j m xs g stripe-inside member-inside whole
@@ -140,10 +143,10 @@ module _ (l : Layout) (u : Usable l) (page : ℕ) (inside : page < l .N * l .S) 
           place free partial-there left
 
     slot-closes : Closes l (Kept l) (Wrote l page xs) (StoresRecord j) (slotSteps l j m xs p t) t
-    unfolding slotSteps whenFound
+    unfolding slotSteps whenFound fetchIn
     slot-closes =
         let (i, found, place, free) = slot-found in
-        rw found
+        rw (found, partial-fed l (u .within) (pageAt l (t .chips)) (slotAt l (t .slots)) j (r j) m member-inside xs)
         (closes-two l (Kept l) (Wrote l page xs) (StoresRecord j) _ _ t
         (kept-refl l t g) (slot-stored i place free) (last i place free) (written l m p i (r j), refl))
 

@@ -26,6 +26,7 @@ use Rattle.rules.specs.Refusals.{Row, checked, lostNamed, atRest, collec
 use Rattle.rules.proofs.Soundness.Statements.{SoundBut, Sound}
 use Rattle.rules.proofs.Soundness.Table.{by-check, AllPass, rows-passed, rows-pass, below-passed, both-passed}
 use Rattle.rules.proofs.Soundness.Checks.{images-sound, lengths-pass, records-check-pass, spares-check-pass}
+use Rattle.rules.specs.Sound.{isLost}
 
 module _ (l : Layout) where
   open Layout l using (N, W, S)
@@ -33,12 +34,12 @@ module _ (l : Layout) where
   pub record OpenAccepted (s : Images) (lost : ℕ) : Type 0 where
     pub within : Within l
     pub named : lostNamed l lost ≡ true
-    pub sound : SoundBut l lost s
+    pub sound : SoundBut l (isLost lost) s
 
   pub record ReadAccepted (s : Images) (lost i : ℕ) (buffer : List ℕ) : Type 0 where
     pub within : Within l
     pub named : lostNamed l lost ≡ true
-    pub sound : SoundBut l lost s
+    pub sound : SoundBut l (isLost lost) s
     pub page : i < N * S
     pub whole : length buffer ≡ W
 
@@ -80,14 +81,14 @@ module _ (l : Layout) where
       record {
         within = in-limits l (h .0);
         named = h .1 .1 .0;
-        sound = images-sound l s lost (h .1 .0) (h .1 .1 .1 .0) (h .1 .1 .1 .1 .0);
+        sound = images-sound l s (isLost lost) (h .1 .0) (h .1 .1 .1 .0) (h .1 .1 .1 .1 .0);
       }
 
   images-pass : (s : Images) (lost : ℕ) → OpenAccepted s lost → checked (imagesRows l s lost) ≡ Passed
   unfolding imagesRows buffersRows
   images-pass s lost h =
       rows-pass (imagesRows l s lost)
-      (limited l (h .within), (lengths-pass l s lost (h .sound), (h .named, (records-check-pass l s lost (h .sound), (spares-check-pass l s lost (h .sound), tt)))))
+      (limited l (h .within), (lengths-pass l s (isLost lost) (h .sound), (h .named, (records-check-pass l s (isLost lost) (h .sound), (spares-check-pass l s (isLost lost) (h .sound), tt)))))
 
   -- read
   pub read-passes : (s : Images) (lost page : ℕ) (buffer : List ℕ) → ReadAccepted s lost page buffer → checked (readRows l s lost page buffer) ≡ Passed

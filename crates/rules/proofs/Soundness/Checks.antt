@@ -1,19 +1,19 @@
 -- The tests of "Sound images" pass exactly where the statements hold.
 use Prim.Native.Nat.{ℕ, _+_}
 use mathlib.Core.Path.{_≡_}
-use mathlib.Core.Bool.{true}
+use mathlib.Core.Bool.{true, Bool}
 use mathlib.Core.List.{[], _∷_}
 use lib.ListN.{length}
 use lib.Dec.{eqb}
 use borrow.Author.Tests.{eqb-true, eq-eqb}
 use Rattle.ranges.proofs.Looks.{all-true, all-at}
-use Rattle.ranges.proofs.Tests.{chain-all, unless-equal, unless-equal-by}
+use Rattle.ranges.proofs.Tests.{chain-all, unless-equal, unless-equal-by, or-else, or-by}
 use Rattle.layout.specs.Layout.{Layout}
 use Rattle.layout.specs.Page.{pageAt}
 use Rattle.layout.specs.Record.{recordAt}
 use Rattle.layout.specs.Collection.{collectionAt}
 use Rattle.layout.specs.Images.{Images, lengths, chipsLength, recordsLength, slotsLength}
-use Rattle.rules.specs.Sound.{chipSound, soundOrLost, sparesSound}
+use Rattle.rules.specs.Sound.{chipSound, sparesSound, soundOrExempt}
 use Rattle.rules.specs.Refusals.{recordsCheck, sparesCheck}
 use Rattle.rules.proofs.Soundness.Statements.{SoundBut}
 use Rattle.rules.proofs.Soundness.RecordChecks.{records-sound, records-pass}
@@ -34,9 +34,10 @@ module _ (l : Layout) where
       )
 
   -- rows 2, 4 and 5 of the refusals, one way and the other
-  pub images-sound : (s : Images) (lost : ℕ) → lengths l s ≡ true → recordsCheck l s ≡ true → sparesCheck l s lost ≡ true → SoundBut l lost s
+  pub images-sound : (s : Images) (exempt : ℕ → Bool) → lengths l s ≡ true → recordsCheck l s ≡ true
+      → sparesSound l (recordAt l (s .records)) (pageAt l (s .chips)) (collectionAt l (s .records)) exempt ≡ true → SoundBut l exempt s
   unfolding sparesSound
-  images-sound s lost long records spares =
+  images-sound s exempt long records spares =
       let r = recordAt l (s .records) in
       let co = collectionAt l (s .records) in
       let n = lengths-are s long in
@@ -47,10 +48,10 @@ module _ (l : Layout) where
         stripes = records-sound l r co records;
         chip = λ c low d.
             chip-sound l r (pageAt l (s .chips) c) c co
-            (unless-equal c lost (chipSound l r (pageAt l (s .chips) c) c co) (all-at _ (soundOrLost l r (pageAt l (s .chips)) co lost) spares c low) d);
+            (or-else (exempt c) (chipSound l r (pageAt l (s .chips) c) c co) (all-at _ (soundOrExempt l r (pageAt l (s .chips)) co exempt) spares c low) d);
       }
 
-  module _ (s : Images) (lost : ℕ) (h : SoundBut l lost s) where
+  module _ (s : Images) (exempt : ℕ → Bool) (h : SoundBut l exempt s) where
     pub lengths-pass : lengths l s ≡ true
     unfolding lengths
     lengths-pass =
@@ -63,10 +64,10 @@ module _ (l : Layout) where
     pub records-check-pass : recordsCheck l s ≡ true
     records-check-pass = records-pass l (recordAt l (s .records)) (collectionAt l (s .records)) (h .stripes)
 
-    pub spares-check-pass : sparesCheck l s lost ≡ true
+    pub spares-check-pass : sparesSound l (recordAt l (s .records)) (pageAt l (s .chips)) (collectionAt l (s .records)) exempt ≡ true
     unfolding sparesSound
     spares-check-pass =
         let r = recordAt l (s .records) in
         let co = collectionAt l (s .records) in
-        all-true (N + 1) (soundOrLost l r (pageAt l (s .chips)) co lost)
-        (λ c low. unless-equal-by c lost (chipSound l r (pageAt l (s .chips) c) c co) (λ d. chip-pass l r (pageAt l (s .chips) c) c co (h .chip c low d)))
+        all-true (N + 1) (soundOrExempt l r (pageAt l (s .chips)) co exempt)
+        (λ c low. or-by (exempt c) (chipSound l r (pageAt l (s .chips) c) c co) (λ d. chip-pass l r (pageAt l (s .chips) c) c co (h .chip c low d)))

@@ -15,8 +15,7 @@ use Rattle.ranges.proofs.Tests.{unless-equal, unless-equal-by, differ-by, or-el
 use Rattle.layout.specs.Layout.{Layout, none, isNone, pages}
 use Rattle.layout.specs.Record.{Record, bit, noSlot, slotted, slotOf}
 use Rattle.layout.specs.Collection.{Collection}
-use Rattle.rules.specs.Sound.{ownSlot, pageNumber, onlyMembers, oldUnderBit, currentUnderBit, parityUnder, memberSound, slotSound, recordSound, collectionSound}
-use Rattle.rules.specs.Sound.{soundAt, recordsSound}
+use Rattle.rules.specs.Sound.{ownSlot, pageNumber, onlyMembers, oldUnderBit, currentUnderBit, parityUnder, memberSound, slotSound, recordSound, collectionSound, soundAt, recordsSound}
 use Rattle.rules.proofs.Soundness.Statements.{Numbered, MemberSound, RecordSound, CollectionSound, RecordsSound}
 
 -- "an old number, or a current one with its bit clear, needs ..": a and b for no old and no current one

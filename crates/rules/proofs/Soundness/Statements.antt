@@ -3,7 +3,7 @@ use Prim.Native.Nat.{ℕ, _+_, _^_, _≤_, _<_}
 use native.Mathlib.Omega.{arith}
 use mathlib.Core.Path.{_≡_, refl}
 use mathlib.Core.Logic.{_≢_}
-use mathlib.Core.Bool.{true, false, and-false}
+use mathlib.Core.Bool.{true, false, and-false, Bool}
 use lib.ListN.{length}
 use borrow.Author.Tests.{ne-eqb}
 use Rattle.ranges.specs.Look.{countBelow}
@@ -15,7 +15,7 @@ use Rattle.layout.specs.Images.{Images, chipsLength, recordsLength, slotsLength
 use Rattle.layout.proofs.Limits.{Within}
 use Rattle.rules.specs.Names.{mainNumber, sideNumber, kindOn, memberByte, named}
 use Rattle.rules.specs.Blocks.{cleanIn, cleanBlock}
-use Rattle.rules.specs.Sound.{collecting}
+use Rattle.rules.specs.Sound.{collecting, isLost}
 
 module _ (l : Layout) where
   open Layout l using (N, K, B, S, M, D)
@@ -115,32 +115,32 @@ module _ (l : Layout) where
         → OneTwin r x c (co .destination) (pageIn l (co .victim) i)
 
   -- images of their lengths that are sound, "on every chip but the lost one"
-  pub record SoundBut (lost : ℕ) (s : Images) : Type 0 where
+  pub record SoundBut (exempt : ℕ → Bool) (s : Images) : Type 0 where
     pub chips : length (s .chips) ≡ chipsLength l
     pub records : length (s .records) ≡ recordsLength l
     pub slots : length (s .slots) ≡ slotsLength l
     pub stripes : RecordsSound (recordAt l (s .records)) (collectionAt l (s .records))
-    pub chip : (c : ℕ) → c < N + 1 → c ≢ lost → ChipSound (recordAt l (s .records)) (pageAt l (s .chips) c) c (collectionAt l (s .records))
+    pub chip : (c : ℕ) → c < N + 1 → exempt c ≡ false → ChipSound (recordAt l (s .records)) (pageAt l (s .chips) c) c (collectionAt l (s .records))
 
   -- on every chip
   abbrev pub Sound : Images → Type 0
-  Sound s = SoundBut noChip s
+  Sound s = SoundBut (isLost noChip) s
 
   -- ---- what follows at once
 
   -- no chip is the one that stands for none
   pub sound-chip : Usable → (s : Images) → Sound s → (c : ℕ) → c < N + 1
       → ChipSound (recordAt l (s .records)) (pageAt l (s .chips) c) c (collectionAt l (s .records))
-  sound-chip u s f c chip = f .chip c chip (λ e. absurd (omega (arith, u .within .members-high)))
+  sound-chip u s f c chip = f .chip c chip (ne-eqb c noChip (omega (arith, u .within .members-high)))
 
-  -- what is sound on every chip is so on every chip but one
-  pub sound-but : Within l → (s : Images) (lost : ℕ) → Sound s → SoundBut lost s
-  sound-but w s lost h = record {
+  -- what is sound on every chip is so on every chip but some
+  pub sound-but : Within l → (s : Images) (exempt : ℕ → Bool) → Sound s → SoundBut exempt s
+  sound-but w s exempt h = record {
     chips = h .chips;
     records = h .records;
     slots = h .slots;
     stripes = h .stripes;
-    chip = λ c low d. h .chip c low (omega (arith, w .members-high));
+    chip = λ c low d. h .chip c low (ne-eqb c noChip (omega (arith, w .members-high)));
   }
 
   -- a record is sound about every member that there is

@@ -14,7 +14,7 @@ use Rattle.layout.specs.Layout.{Layout}
 use Rattle.layout.specs.Record.{Record, noSlot, slotted, slotOf}
 use Rattle.layout.specs.Collection.{Collection}
 use Rattle.layout.proofs.Limits.{Within}
-use Rattle.rules.specs.Write.{freeSlot, lowestFreeSlot}
+use Rattle.rules.specs.Partial.{freeSlot, lowestFreeSlot}
 use Rattle.rules.proofs.Soundness.Statements.{RecordsSound}
 use Rattle.rules.proofs.Data.Contents.{slot-bits}
 

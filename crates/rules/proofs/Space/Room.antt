@@ -24,8 +24,9 @@ use Rattle.rules.specs.Blocks.{cleanIn, cleanBlock, fullBlock, namedIn, 
 use Rattle.rules.specs.Sound.{collecting}
 use Rattle.rules.specs.Collect.{collectable, namedCount, victimOf}
 use Rattle.rules.specs.Place.{openBlock, placeOf}
-use Rattle.rules.specs.Commit.{cheapest, recordCost}
-use Rattle.rules.specs.Write.{commitOwed, freeSlot, lowestFreeSlot}
+use Rattle.rules.specs.Costs.{cheapest, recordCost}
+use Rattle.rules.specs.Partial.{freeSlot, lowestFreeSlot}
+use Rattle.rules.specs.Write.{commitOwed}
 use Rattle.rules.proofs.Soundness.Statements.{RecordsSound, ChipSound}
 use Rattle.rules.proofs.Stores.Names.{by-name, named-by, name-stamped, side-slot}
 use Rattle.rules.proofs.Stores.Chips.{Fillable, CleanBut}

@@ -3,11 +3,11 @@ use Prim.Native.Nat.{ℕ, _+_, _<_}
 use native.Mathlib.Decide.{ℕ-discrete}
 use mathlib.Core.Path.{_≡_, refl, sym, _∙_}
 use mathlib.Core.Logic.{_≢_}
-use mathlib.Core.Bool.{true, false}
+use mathlib.Core.Bool.{true, false, or-false}
 use lib.Dec.{eqb}
 use borrow.Author.Tests.{eq-eqb, ne-eqb, eqb-true}
 use Rattle.ranges.proofs.Looks.{by-test, both, all-at, some-true, some-at, some-false}
-use Rattle.ranges.proofs.Tests.{or-right}
+use Rattle.ranges.proofs.Tests.{or-right, or-else}
 use Rattle.layout.specs.Layout.{Layout, none, pageIn}
 use Rattle.layout.specs.Rotation.{parityChip, memberChip, memberOn}
 use Rattle.layout.specs.Page.{Page, dataKind, parityKind, clean}
@@ -16,8 +16,9 @@ use Rattle.layout.specs.Collection.{Collection}
 use Rattle.layout.proofs.Limits.{Within}
 use Rattle.layout.proofs.Rotations.{member-chip-other, member-of-chip, chip-of-member, member-on-fits}
 use Rattle.layout.proofs.Pages.{page-in-fits, page-number}
-use Rattle.rules.specs.Names.{mainNumber, sideNumber, kindOn, memberByte, names, named}
+use Rattle.rules.specs.Names.{mainNumber, sideNumber, roleOf, kindOn, memberByte, names, named}
 use Rattle.rules.specs.Blocks.{cleanIn, cleanBlock}
+use Rattle.rules.specs.Fetch.{chipIn, numberIn}
 use Rattle.rules.proofs.Soundness.Statements.{RecordSound, Stamped, ChipSound, sound-member}
 use Rattle.rules.proofs.Data.Contents.{bit-slot}
 
@@ -62,6 +63,23 @@ module _ (l : Layout) where
   by-chip c j chip parity member = elim (ℕ-discrete c (parityChip l j)) [
     | yes e ↦ parity e
     | no d ↦ member (memberOn l j c) (member-on-fits l j c chip d) (sym (chip-of-member l j c d))
+  ]
+
+  -- a page that the record of stripe j names has its role there: its chip, and its number in the record
+  pub role-is : (r : ℕ → Record) (c p j : ℕ) → names l r c p j ≡ true → p ≢ none l
+      → (chipIn l j (roleOf l c j (r j) p) ≡ c) × (numberIn l (r j) (roleOf l c j (r j) p) ≡ p)
+  unfolding names mainNumber sideNumber roleOf
+  role-is r c p j h d = elim (ℕ-discrete c (parityChip l j)) [
+    | yes e ↦
+        let t = rw (eq-eqb c (parityChip l j) e, ne-eqb (none l) p (λ q. d (sym q)), or-false) at h in
+        rw (eq-eqb c (parityChip l j) e) (sym e, eqb-true (r j .parity) p t)
+    | no q ↦
+        let m = memberOn l j c in
+        let t = rw (ne-eqb c (parityChip l j) q) at h in
+        rw (ne-eqb c (parityChip l j) q)
+        (by-test (eqb (r j .current m) p)
+        (λ s. rw s (chip-of-member l j c q, eqb-true (r j .current m) p s))
+        (λ s. rw s (chip-of-member l j c q, eqb-true (r j .old m) p (or-else (eqb (r j .current m) p) (eqb (r j .old m) p) t s))))
   ]
 
   -- a record's own numbers

@@ -12,7 +12,7 @@ use Rattle.ranges.proofs.Looks.{first-not-here}
 use Rattle.layout.specs.Layout.{layoutOf}
 use Rattle.layout.specs.Page.{pageAt}
 use Rattle.rules.specs.Blocks.{cleanIn}
-use Rattle.spares.proofs.Scanning.{OnChip, place-low}
+use Rattle.codec.proofs.Fetching.{OnChip, place-low}
 use Rattle.space.proofs.Blocks.{some-places, first-page, last-page, first-tells, open-tells}
 use Rattle.space.proofs.Searching.{begun-inside, room-inside, Searched, search-start, search-few, search-first, search-later, search-full, Answered, answer-begun, answer-none}
 use Rattle.space.proofs.place_on.Statement.{statement}

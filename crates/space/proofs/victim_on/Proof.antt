@@ -14,9 +14,8 @@ returns c = rw (← c .before .before .place-on .ensures, c .enum-told .given .1
 returns-2 : tie.Need-returns-2
 unfolding victimWanted whenFound
 returns-2 c =
-    let s = c .before .before .before .before .before .before .before in
     rw (← c .before .before .before .before .place-on .ensures, c .before .before .enum-told2 .given .1)
-    (c .victim-in .ensures ∙ victim-found (s .pre .1) (c .before .scan-chip .ensures))
+    (c .victim-in .ensures ∙ victim-found (c .before .before .before .before .before .before .before .pre .1) (c .before .scan-chip .ensures))
 
 pub victim-on-spec : {M : Type 1} → statement M
 victim-on-spec =

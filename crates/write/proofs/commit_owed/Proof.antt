@@ -9,8 +9,8 @@ use Rattle.layout.specs.Layout.{layoutOf}
 use Rattle.layout.specs.Record.{recordAt, hasSlot}
 use Rattle.steps.specs.Allowance.{images}
 use Rattle.steps.proofs.Allowances.{ran-none}
-use Rattle.rules.specs.Commit.{cheapest}
-use Rattle.rules.specs.Write.{lowestFreeSlot}
+use Rattle.rules.specs.Costs.{cheapest}
+use Rattle.rules.specs.Partial.{lowestFreeSlot}
 use Rattle.records.specs.declared.SlotScan.{SlotScan}
 use Rattle.write.proofs.Owing.{owed-commits, owed-nothing, cheapest-slotted, commit-lowers}
 use Rattle.write.proofs.commit_owed.Statement.{statement}

@@ -3,52 +3,40 @@ use mathlib.Core.Path.{sym, _∙_}
 use denote.Ref.{now}
 use borrow.Author.Needs.{needs}
 use Rattle.layout.specs.Layout.{layoutOf}
-use Rattle.rules.specs.Write.{writeAt}
+use Rattle.rules.specs.Partial.{writeAt}
 use Rattle.collect.proofs.Rooms.{ordered}
 use Rattle.commit.proofs.Placing.{record-passes, place-fits, room-settled, room-free, placed-cut, placed-at, placed-nowhere, placed-on}
 use Rattle.write.proofs.place_member.Statement.{statement}
 use Rattle.write.proofs.place_member.Tie as tie
 
-member-chip-requires : tie.Need-member-chip-requires
-member-chip-requires c κs = search needs
-
 make-room-requires : tie.Need-make-room-requires
 make-room-requires c κs =
-    let h = c .before .before .before .before .before .before .before .pre in
-    let on = c .before .before .member-chip .ensures in
-    (h .0, on .1, rw (on .0) (h .6), h .5)
-
-same-length : tie.Need-same-length
-same-length c = search needs
-
-same-length-2 : tie.Need-same-length-2
-same-length-2 c = search needs
+    let h = c .before .before .before .before .before .before .before .before .pre in
+    let on = c .before .before .before .member-chip .ensures in
+    (h .0, on .1, rw (on .0) (h .6), h .5, h .1)
 
 returns : tie.Need-returns
 returns c =
-    let s = c .before .before .before .before .before .before .before .before .before .before .before .before .before in
+    let s = c .before .before .before .before .before .before .before .before .before .before .before .before .before .before in
     let a = s .args in
-    let on = c .before .before .before .before .before .before .before .before .member-chip .ensures in
+    let on = c .before .before .before .before .before .before .before .before .before .member-chip .ensures in
     let first = c .before .before .before .before .before .make-room .ensures (now (a .slots)) (s .pre .1 .long) in
     let fill = writeAt (layoutOf (a .g)) (a .j) (a .m) (now (a .bytes)) in
     placed-on (layoutOf (a .g)) (on .0) fill (placed-cut (s .pre .0) (s .pre .1) (on .1) first fill (c .if1 .taken))
 
 place-on-requires : tie.Need-place-on-requires
 place-on-requires c κs =
-    let s = c .before .before .before .before .before .before .before .before .before .before .before .before .before .before in
+    let s = c .before .before .before .before .before .before .before .before .before .before .before .before .before .before .before in
     let a = s .args in
-    let on = c .before .before .before .before .before .before .before .before .before .member-chip .ensures in
+    let on = c .before .before .before .before .before .before .before .before .before .before .member-chip .ensures in
     let first = c .before .before .before .before .before .before .make-room .ensures (now (a .slots)) (s .pre .1 .long) in
     ordered (room-settled (s .pre .0) (s .pre .1) (on .1) first (c .before .if1 .left) .checked) (on .1)
 
-enum-known-q : tie.Need-enum-known-q
-enum-known-q c = search needs
-
 write-at-requires : tie.Need-write-at-requires
 write-at-requires c κs =
-    let s = c .before .before .before .before .before .before .before .before .before .before .before .before .before .before .before .before .before .before .before .before .before in
+    let s = c .before .before .before .before .before .before .before .before .before .before .before .before .before .before .before .before .before .before .before .before .before .before in
     let a = s .args in
-    let on = c .before .before .before .before .before .before .before .before .before .before .before .before .before .before .before .before .member-chip .ensures in
+    let on = c .before .before .before .before .before .before .before .before .before .before .before .before .before .before .before .before .before .member-chip .ensures in
     let first = c .before .before .before .before .before .before .before .before .before .before .before .before .before .make-room .ensures (now (a .slots)) (s .pre .1 .long) in
     let r = room-settled (s .pre .0) (s .pre .1) (on .1) first (c .before .before .before .before .before .before .before .before .if1 .left) in (
       r .checked .chips-fit,
@@ -63,39 +51,21 @@ write-at-requires c κs =
       s .pre .7 ∙ sym (room-free (s .pre .0) (s .pre .1) (on .1) first (c .before .before .before .before .before .before .before .before .if1 .left)),
     )
 
-enum-told : tie.Need-enum-told
-enum-told c = search needs
-
-same-length-3 : tie.Need-same-length-3
-same-length-3 c = search needs
-
-same-length-4 : tie.Need-same-length-4
-same-length-4 c = search needs
-
-same-length-5 : tie.Need-same-length-5
-same-length-5 c = search needs
-
 returns-2 : tie.Need-returns-2
 returns-2 c =
-    let s = c .before .before .before .before .before .before .before .before .before .before .before .before .before .before .before .before .before .before .before .before .before .before .before .before .before .before .before .before in
+    let s = c .before .before .before .before .before .before .before .before .before .before .before .before .before .before .before .before .before .before .before .before .before .before .before .before .before .before .before .before .before in
     let a = s .args in
-    let on = c .before .before .before .before .before .before .before .before .before .before .before .before .before .before .before .before .before .before .before .before .before .before .before .member-chip .ensures in
+    let on = c .before .before .before .before .before .before .before .before .before .before .before .before .before .before .before .before .before .before .before .before .before .before .before .before .member-chip .ensures in
     let first = c .before .before .before .before .before .before .before .before .before .before .before .before .before .before .before .before .before .before .before .before .make-room .ensures (now (a .slots)) (s .pre .1 .long) in
     let fill = writeAt (layoutOf (a .g)) (a .j) (a .m) (now (a .bytes)) in
     placed-on (layoutOf (a .g)) (on .0) fill
     (placed-at (s .pre .0) (s .pre .1) (on .1) first fill (sym (c .before .before .before .before .before .before .before .before .before .before .before .before .before .place-on .ensures) ∙ c .before .before .before .before .before .before .before .before .before .before .before .q .given .1) (c .before .before .before .before .before .before .write-at .ensures))
 
-same-length-6 : tie.Need-same-length-6
-same-length-6 c = search needs
-
-same-length-7 : tie.Need-same-length-7
-same-length-7 c = search needs
-
 returns-3 : tie.Need-returns-3
 returns-3 c =
-    let s = c .before .before .before .before .before .before .before .before .before .before .before .before .before .before .before .before .before in
+    let s = c .before .before .before .before .before .before .before .before .before .before .before .before .before .before .before .before .before .before in
     let a = s .args in
-    let on = c .before .before .before .before .before .before .before .before .before .before .before .before .member-chip .ensures in
+    let on = c .before .before .before .before .before .before .before .before .before .before .before .before .before .member-chip .ensures in
     let first = c .before .before .before .before .before .before .before .before .before .make-room .ensures (now (a .slots)) (s .pre .1 .long) in
     let fill = writeAt (layoutOf (a .g)) (a .j) (a .m) (now (a .bytes)) in
     placed-on (layoutOf (a .g)) (on .0) fill
@@ -105,19 +75,21 @@ pub place-member-spec : {M : Type 1} → statement M
 place-member-spec =
     tie.close
     (tie.spec
-    member-chip-requires
+    (λ c κs. search needs)
     make-room-requires
-    same-length
-    same-length-2
+    (λ c. search needs)
+    (λ c. search needs)
+    (λ c. search needs)
     returns
     place-on-requires
-    enum-known-q
+    (λ c. search needs)
     write-at-requires
-    enum-told
-    same-length-3
-    same-length-4
-    same-length-5
+    (λ c. search needs)
+    (λ c. search needs)
+    (λ c. search needs)
+    (λ c. search needs)
     returns-2
-    same-length-6
-    same-length-7
+    (λ c. search needs)
+    (λ c. search needs)
+    (λ c. search needs)
     returns-3)

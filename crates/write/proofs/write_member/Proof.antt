@@ -10,8 +10,9 @@ use Rattle.layout.specs.Layout.{layoutOf}
 use Rattle.layout.specs.Rotation.{memberChip}
 use Rattle.steps.specs.Allowance.{Ran, images}
 use Rattle.steps.proofs.Allowances.{ran-none, ran-then, ran-then-cut}
-use Rattle.rules.specs.Place.{placed}
-use Rattle.rules.specs.Write.{owedSteps, writeAt, writeMember}
+use Rattle.rules.specs.Room.{placed}
+use Rattle.rules.specs.Partial.{writeAt}
+use Rattle.rules.specs.Write.{owedSteps, writeMember}
 use Rattle.names.specs.Checked.{Settled}
 use Rattle.names.proofs.Statements.{stamps-pass}
 use Rattle.records.specs.declared.SlotScan.{SlotScan}

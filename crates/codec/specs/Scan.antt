@@ -1,0 +1,92 @@
+-- What the checks look at, many pages or records at once.
+use Prim.Native.Nat.{ℕ, _+_, _-_, _*_, _/_, _%_, _≤_, _<_}
+use mathlib.Core.Path.{_≡_}
+use mathlib.Core.Bool.{Bool, true, not, cond, _&&_, _||_}
+use mathlib.Core.List.{List}
+use mathlib.Core.Logic.{_≢_}
+use lib.ListN.{length, getD}
+use lib.Dec.{ltb, eqb}
+use Rattle.bytes.specs.Number.{number}
+use Rattle.bytes.specs.Units.{part}
+use Rattle.ranges.specs.Look.{countBelow}
+use Rattle.layout.specs.Layout.{Layout, none, isNone, pages, pageIn}
+use Rattle.layout.specs.Page.{Page}
+use Rattle.layout.specs.Record.{Record, noSlot}
+use Rattle.codec.specs.declared.scan.Glance.{Glance}
+
+-- ---- the pages of a block
+
+-- the tag t is the kind k and behind it the member m
+pub record TagIs (t k m : ℕ) : Type 0 where
+  pub kind : t % 256 ≡ k
+  pub member : t / 256 ≡ m
+
+abbrev pub tagOf : ℕ → ℕ → ℕ
+tagOf k m = k + 256 * m
+
+-- the page with this tag is clean
+abbrev pub cleanTag : ℕ → Bool
+cleanTag t = eqb (t % 256) 255
+
+-- the tags and stripes of the pages of block b, with the chip's pages x
+pub record StampsOf (l : Layout) (x : ℕ → Page) (b : ℕ) (tags stripes : List ℕ) : Type 0 where
+  pub tag : (i : ℕ) → i < l .K → TagIs (getD tags i 0) (x (pageIn l b i) .kind) (x (pageIn l b i) .member)
+  pub stripe : (i : ℕ) → i < l .K → getD stripes i 0 ≡ x (pageIn l b i) .stripe
+
+-- ---- the numbers of a record
+
+-- number i of a record: six current pages, six old ones, the parity page
+unfoldable pub numberOf : Record → ℕ → ℕ
+numberOf r i = cond (ltb i 6) (r .current i) (cond (ltb i 12) (r .old (i - 6)) (r .parity))
+
+-- the first n numbers may be none or any page, and the others only none
+pub record Ranges (n pages : ℕ) (tops : List ℕ) : Type 0 where
+  pub long : length tops ≡ 8
+  pub is : (m : ℕ) → m < 8 → getD tops m 0 ≡ cond (ltb m n) pages 0
+
+-- the number of two bytes at offset a
+abbrev pub numberAt : List ℕ → ℕ → ℕ
+numberAt xs a = number (part a 2 xs)
+
+-- number i of the record at offset a
+abbrev pub numberIn : List ℕ → ℕ → ℕ → ℕ
+numberIn xs a i = numberAt xs (a + 2 * i)
+
+-- x is one of the pages below top, or none where there are none
+abbrev pub isWritten : ℕ → ℕ → Bool
+isWritten top x = ltb x top || (eqb x 65535 && eqb top 0)
+
+-- so is number i of the record at offset a
+abbrev pub writtenIn : List ℕ → List ℕ → ℕ → ℕ → Bool
+writtenIn tops xs a i = isWritten (getD tops i 0) (numberIn xs a i)
+
+-- r is the four numbers from offset a on, as one; each has two bytes
+pub record WordAt (xs : List ℕ) (a r : ℕ) : Type 0 where
+  pub sum : r ≡ numberAt xs a + 65536 * numberAt xs (a + 2) + 4294967296 * numberAt xs (a + 4) + 281474976710656 * numberAt xs (a + 6)
+  pub first : numberAt xs a < 65536
+  pub second : numberAt xs (a + 2) < 65536
+  pub third : numberAt xs (a + 4) < 65536
+  pub fourth : numberAt xs (a + 6) < 65536
+
+module _ (l : Layout) (e : Record) where
+  open Layout l using (N)
+
+  -- the record has a current page of member m
+  abbrev pub currentGiven : ℕ → Bool
+  currentGiven m = not (isNone l (e .current m))
+
+  -- a record with nothing in the partial parity: a current page is a member's, under a parity page, and there is no old one; it has so
+  -- many page numbers
+  pub record Plain (names : ℕ) : Type 0 where
+    pub current : (m : ℕ) → m < 6 → e .current m ≢ none l → (m < N) × (e .current m < pages l) × (e .parity ≢ none l)
+    pub old : (m : ℕ) → m < 6 → e .old m ≡ none l
+    pub parity : e .parity ≢ none l → e .parity < pages l
+    pub bitmap : e .bitmap ≡ 0
+    pub slot : e .slot ≡ noSlot
+    pub rest : e .rest ≡ 0
+    pub counted : names ≡ countBelow 6 currentGiven + cond (isNone l (e .parity)) 0 1
+
+  -- the look says plain only of such a record; its count is small whatever it says, so that a sum does not overflow
+  pub record Glanced (r : Glance) : Type 0 where
+    pub found : r .plain ≡ true → Plain (r .names)
+    pub few : r .names ≤ 9

@@ -1,0 +1,69 @@
+-- The loop's invariant: whether all places below i are clean by their tags, and whether none is.
+use borrow.Author.Needs.{needs}
+use Prim.Native.Nat.{_-_, _≤_, _<_}
+use native.Mathlib.Numerals.{add-one}
+use native.Mathlib.Omega.{arith}
+use mathlib.Core.Path.{_≡_, refl, _∙_}
+use Rattle.ranges.specs.Look.{allBelow}
+use Rattle.layout.specs.Layout.{layoutOf}
+use Rattle.layout.proofs.Limits.{within}
+use Rattle.spares.proofs.Scanning.{freeTag, usedTag, fill-tags}
+use Rattle.spares.proofs.block.fill_of.Statement.{statement}
+use Rattle.spares.proofs.block.fill_of.Tie as tie
+
+abbrev Inv-loop : tie.InvT-loop
+Inv-loop tags k clean₀ full₀ i₀ clean full i = (i ≤ k) × (clean ≡ allBelow i (freeTag tags)) × (full ≡ allBelow i (usedTag tags))
+
+abbrev μ-loop : tie.MeasureT-loop
+μ-loop tags k clean₀ full₀ i₀ clean full i = k - i
+
+-- a place of the block is one of at most 128
+places : (c : tie.In-loop Inv-loop μ-loop) → c .before .loop .i < 128
+places c =
+    let s = c .before .before in
+    omega (arith, within (layoutOf (s .args .g)) (s .pre) .places-high)
+
+loop-holds : tie.Need-loop-holds Inv-loop μ-loop
+unfolding allBelow
+loop-holds c = (omega arith, refl, refl)
+
+mul-is-clean-tag : tie.Need-mul-is-clean-tag Inv-loop μ-loop
+mul-is-clean-tag c = omega (arith, places c)
+
+element-copy-out-is-clean-tag : tie.Need-element-copy-out-is-clean-tag Inv-loop μ-loop
+element-copy-out-is-clean-tag c = places c
+
+is-clean-tag-requires : tie.Need-is-clean-tag-requires Inv-loop μ-loop
+is-clean-tag-requires c κs = search needs
+
+add-i : tie.Need-add-i Inv-loop μ-loop
+add-i c = omega (arith, places (c .before .before))
+
+loop-less : tie.Need-loop-less Inv-loop μ-loop
+loop-less c = omega arith
+
+loop-again : tie.Need-loop-again Inv-loop μ-loop
+unfolding allBelow
+loop-again c =
+    let o = c .before .before .before .loop in
+    (omega arith, rw (add-one, o .inv .1, c .is-clean-tag .ensures), rw (add-one, o .inv .2, c .is-clean-tag .ensures))
+
+returns : tie.Need-returns Inv-loop μ-loop
+returns c x b stripes f =
+    let all : c .before .loop .i ≡ c .before .before .args .g .k = omega arith in
+    rw (c .before .loop .inv .1, c .before .loop .inv .2, all) (fill-tags f)
+
+pub fill-of-spec : {M : Type 1} → statement M
+fill-of-spec =
+    tie.close
+    (tie.spec
+    Inv-loop
+    μ-loop
+    loop-holds
+    mul-is-clean-tag
+    element-copy-out-is-clean-tag
+    is-clean-tag-requires
+    add-i
+    loop-less
+    loop-again
+    returns)
