@@ -1,27 +1,24 @@
-//! The source of a crate as Rust, its contracts set aside, with a fault put into it or none.
+//! A source file of a crate as Rust, its contracts set aside, with a fault put into it or none.
 //!
-//!     set_aside SOURCE [EDIT]
+//!     set_aside SOURCE FILE [EDIT]
 //!
-//! prints it. What rustc lacks is dropped (`ghost use`, `requires`, `ensures`), and what it asks for is added:
+//! prints SOURCE, which is FILE of its crate (src/lib.rt). What rustc lacks is dropped (`ghost use`, `requires`, `ensures`), and what it asks for is added:
 //! plain data is `Copy`. The exports are plain functions, for slices do not cross the border to C in Rust.
-//! An edit has lines `file:`, `old:` and `new:`, as those that the proof must refuse; one that does not fit the
-//! source ends the program with status 3.
+//! An edit has lines `file:`, `old:` and `new:`, as those that the proof must refuse. What it says of other files is
+//! passed over; where it does not fit FILE, the program ends with status 3.
 
 use std::process::exit;
 
-/// The only file of a crate that has code.
-const FILE: &str = "src/lib.rt";
-
 fn main() {
     let arguments: Vec<String> = std::env::args().skip(1).collect();
-    let (source, edit) = match &arguments[..] {
-        [source] => (source, None),
-        [source, edit] => (source, Some(edit)),
-        _ => stop(2, "usage: set_aside SOURCE [EDIT]"),
+    let (source, file, edit) = match &arguments[..] {
+        [source, file] => (source, file, None),
+        [source, file, edit] => (source, file, Some(edit)),
+        _ => stop(2, "usage: set_aside SOURCE FILE [EDIT]"),
     };
     let mut text = contents(source);
     if let Some(edit) = edit {
-        text = match edited(text, &contents(edit)) {
+        text = match edited(text, file, &contents(edit)) {
             Ok(text) => text,
             Err(what) => stop(3, &what),
         };
@@ -42,18 +39,18 @@ fn contents(path: &str) -> String {
 // Faults
 // ---------------------------------------------------------------------------------------------
 
-/// The text after each pair of `old:` and `new:` in turn, of which the old text must stand there once.
-fn edited(mut text: String, edit: &str) -> Result<String, String> {
-    let (mut old, mut pairs) = ("", 0);
+/// The text after each pair of `old:` and `new:` of the file in turn, of which the old text must stand there once.
+fn edited(mut text: String, file: &str, edit: &str) -> Result<String, String> {
+    let (mut here, mut old, mut pairs) = (false, "", 0);
     for line in edit.lines() {
-        if let Some(file) = line.strip_prefix("file: ") {
-            if file != FILE {
-                return Err(format!("it is about {file}"));
-            }
+        if let Some(named) = line.strip_prefix("file: ") {
+            here = named == file;
         } else if let Some(rest) = line.strip_prefix("old: ") {
             old = rest;
         } else if let Some(new) = line.strip_prefix("new:") {
-            text = replaced(&text, old, new.strip_prefix(' ').unwrap_or(new))?;
+            if here {
+                text = replaced(&text, old, new.strip_prefix(' ').unwrap_or(new))?;
+            }
             (old, pairs) = ("", pairs + 1);
         }
     }

@@ -17,7 +17,7 @@ use Rattle.layout.specs.Layout.{Layout, layoutOf, noChip}
 use Rattle.layout.specs.Page.{pageAt}
 use Rattle.layout.specs.Record.{recordAt, hasSlot}
 use Rattle.layout.specs.Images.{Images, slotAt}
-use Rattle.layout.proofs.Limits.{Within}
+use Rattle.layout.proofs.Limits.{Within, places-most, blocks-most}
 use Rattle.layout.proofs.Rotations.{stripe-fits, member-fits}
 use Rattle.steps.specs.declared.Progress.{Progress}
 use Rattle.steps.specs.Steps.{Step, noCounts}
@@ -55,7 +55,7 @@ use Rattle.rules.specs.declared.Origin.{Origin}
 
 format-short : (l : Layout) → Within l → length (formatSteps l) ≤ 2 ^ 59
 format-short l w =
-    let blocks : (l .N + 1) * l .B ≤ 7 * 1024 = mul-le-mul {n₂ = 7} {m₂ = 1024} (omega (arith, w .members-high)) (w .blocks-high) in
+    let blocks : (l .N + 1) * l .B ≤ 7 * 65535 = mul-le-mul {n₂ = 7} {m₂ = 65535} (omega (arith, w .members-high)) (blocks-most l w) in
     omega (arith, format-length l, w .stripes-high)
 
 module _ (l : Layout) (s : Images) (a : ℕ) where
@@ -86,7 +86,7 @@ module _ (l : Layout) (s : Images) (lost a : ℕ) where
       → Ran l p (finishSteps l s) q s t → _≡_ {A = Outcome} (record { answer = answerOf q; images = t }) (openCall l s lost a)
   unfolding openCall openSteps
   open-finished w e none-lost begun h =
-      call-ran l noCounts s a (openSteps l lost) (imagesRows l s lost) (finishSteps l s) e (rw (eq-eqb lost noChip none-lost)) (omega (arith, finish-length l s, w .places-high)) begun h
+      call-ran l noCounts s a (openSteps l lost) (imagesRows l s lost) (finishSteps l s) e (rw (eq-eqb lost noChip none-lost)) (omega (arith, finish-length l s, places-most l w)) begun h
 
 -- a read that passes its rows
 pub record ReadReady (g : Geometry) (s : Images) (page : ℕ) (buffer : List ℕ) : Type 0 where

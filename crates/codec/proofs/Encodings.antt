@@ -1,14 +1,14 @@
 -- A record in the bytes of the image: its six current and six old numbers, and the fields behind them.
 use Prim.Native.Nat.{ℕ, zero, suc, _+_, _*_, _≤_, _<_}
-use native.Mathlib.Nat.{add-zero, add-assoc}
+use native.Mathlib.Nat.{add-zero, add-assoc, mod-eq-of-lt}
 use native.Mathlib.Decide.{decLt}
 use native.Mathlib.Omega.{arith}
-use mathlib.Core.Path.{_≡_, refl, fun-ext}
+use mathlib.Core.Path.{_≡_, refl, _∙_, fun-ext}
 use mathlib.Core.List.{List, [], _∷_}
 use lib.ListN.{length, getD, set, take, drop}
 use lib.Seq.{drop-drop, getD-set-same, getD-set-other}
 use borrow.Author.Tests.{lt-ltb, le-ltb}
-use Rattle.bytes.specs.Number.{number}
+use Rattle.bytes.specs.Number.{number, digits}
 use Rattle.bytes.specs.Units.{part, unit}
 use Rattle.ranges.specs.Update.{at}
 use Rattle.ranges.proofs.Looks.{by-same}
@@ -16,9 +16,13 @@ use Rattle.bytes.proofs.Units.{part-unit, getD-unit}
 use Rattle.ranges.proofs.Updates.{at-unique}
 use Rattle.layout.specs.declared.Geometry.{Geometry}
 use Rattle.layout.specs.Layout.{Layout, layoutOf}
-use Rattle.layout.specs.Record.{sixFrom, recordOf, recordAt}
+use Rattle.layout.specs.Record.{row, sixFrom, recordOf, bytesOfRecord, recordAt}
+use Rattle.layout.specs.Collection.{bytesOfCollection}
 use Rattle.codec.specs.declared.StripeRecord.{StripeRecord}
-use Rattle.codec.specs.Views.{sixOf, recordFrom, sixAt}
+use Rattle.codec.specs.declared.CollectionRecord.{CollectionRecord}
+use Rattle.codec.specs.declared.Spare.{Spare}
+use Rattle.codec.specs.Views.{sixOf, recordFrom, collectionFrom, spareFrom, sixAt, SmallRecord, SmallSpare}
+use Rattle.codec.proofs.Fills.{laid, joined, laid-whole}
 
 -- ---- six numbers
 
@@ -113,3 +117,35 @@ six-set l xs m v e h =
 pub set-small : (xs : List ℕ) (m v : ℕ) → m < length xs → ((k : ℕ) → getD xs k 0 < 65536) → v < 65536 → (k : ℕ) → getD (set xs m v) k 0 < 65536
 set-small xs m v inside small h k =
     by-same k m (λ e. rw (e, getD-set-same xs m v 0 inside) h) (λ d. rw (getD-set-other xs m k v 0 d) (small k))
+
+-- ---- parts put one behind the other
+
+-- those of a spare
+pub spare-laid : (t : Spare) (d : List ℕ) → length d ≡ 8 → SmallSpare t
+    → laid 0 (digits 1 (t .kind) ∷ digits 1 (t .member) ∷ digits 2 (t .stripe) ∷ digits 2 (t .copied) ∷ digits 2 65535 ∷ []) d ≡ spareFrom t
+unfolding joined digits
+spare-laid t d long s =
+    laid-whole (digits 1 (t .kind) ∷ digits 1 (t .member) ∷ digits 2 (t .stripe) ∷ digits 2 (t .copied) ∷ digits 2 65535 ∷ []) d long
+    ∙ (rw (mod-eq-of-lt (s .kind), mod-eq-of-lt (s .member)))
+
+-- those of a collection record
+pub collection-laid : (g : Geometry) (co : CollectionRecord) (d : List ℕ) → length d ≡ 32 → co .phase < 256 → co .chip < 256
+    → laid 0 (digits 1 (co .phase) ∷ digits 1 (co .chip) ∷ digits 2 (co .victim) ∷ digits 2 (co .destination) ∷ digits 26 0 ∷ []) d
+    ≡ bytesOfCollection (layoutOf g) (collectionFrom co)
+unfolding bytesOfCollection joined digits
+collection-laid g co d long phase chip =
+    laid-whole (digits 1 (co .phase) ∷ digits 1 (co .chip) ∷ digits 2 (co .victim) ∷ digits 2 (co .destination) ∷ digits 26 0 ∷ []) d long
+    ∙ (rw (mod-eq-of-lt phase, mod-eq-of-lt chip))
+
+-- those of a record
+pub record-laid : (g : Geometry) (e : StripeRecord) (d : List ℕ) → length d ≡ 32 → SmallRecord e
+    → laid 0
+    (row 2 (λ (m : ℕ). getD (e .current) m 0) 6 ∷ row 2 (λ (m : ℕ). getD (e .old) m 0) 6 ∷ digits 2 (e .parity) ∷ digits 1 (e .bitmap) ∷ digits 1 (e .slot)
+    ∷ digits 4 (e .rest) ∷ []) d
+    ≡ bytesOfRecord (layoutOf g) (recordFrom (layoutOf g) e)
+unfolding bytesOfRecord recordFrom sixOf row joined digits
+record-laid g e d long s =
+    laid-whole
+    (row 2 (λ (m : ℕ). getD (e .current) m 0) 6 ∷ row 2 (λ (m : ℕ). getD (e .old) m 0) 6 ∷ digits 2 (e .parity) ∷ digits 1 (e .bitmap) ∷ digits 1 (e .slot)
+    ∷ digits 4 (e .rest) ∷ []) d long
+    ∙ (rw (mod-eq-of-lt (s .bitmap), mod-eq-of-lt (s .slot)))

@@ -23,17 +23,9 @@ use Rattle.layout.specs.Record.{recordAt}
 use Rattle.codec.specs.Fit.{RecordsFit}
 use Rattle.codec.specs.Views.{sixAt, recordFrom}
 use Rattle.codec.specs.declared.StripeRecord.{StripeRecord}
+use Rattle.codec.proofs.Sizes.{bounded}
 use Rattle.codec.proofs.Encodings.{six-is, six-in, six-number, recordIn, record-in}
 use Rattle.codec.specs.Scan.{Ranges, WordAt, currentGiven, Plain, Glanced, numberAt, numberIn, isWritten, writtenIn}
-
--- the products of a geometry within its limits
-pub record Bounded (g : Geometry) : Type 0 where
-  pub members : g .n ≤ 6
-  pub pages : g .b * g .k ≤ 65535
-
-pub bounded : (g : Geometry) → limits (layoutOf g) ≡ true → Bounded g
-unfolding none
-bounded g e = let w = within (layoutOf g) e in record { members = w .members-high; pages = w .pages-numbered }
 
 -- ---- a record with nothing in the partial parity, as the code reads it
 

@@ -1,3 +1,4 @@
 pub mod Fit
 pub mod Scan
 pub mod Views
+pub mod Firsts

@@ -2,13 +2,13 @@
 use Prim.Native.Nat.{ℕ, _+_, _<_}
 use mathlib.Core.Bool.{cond}
 use mathlib.Core.Path.{_≡_}
-use mathlib.Core.List.{List, [], _∷_}
-use lib.ListN.{getD}
+use mathlib.Core.List.{List, [], _∷_, _++_}
+use lib.ListN.{getD, replicate}
 use lib.Dec.{ltb}
-use Rattle.bytes.specs.Number.{number}
+use Rattle.bytes.specs.Number.{number, digits}
 use Rattle.bytes.specs.Units.{part}
 use Rattle.layout.specs.Layout.{Layout, none}
-use Rattle.layout.specs.Page.{Page}
+use Rattle.layout.specs.Page.{Page, blankTail}
 use Rattle.layout.specs.Record.{Record}
 use Rattle.layout.specs.Collection.{Collection}
 use Rattle.codec.specs.declared.StripeRecord.{StripeRecord}
@@ -43,14 +43,25 @@ collectionFrom co =
       rest = 0;
     }
 
--- what the spare bytes of a page say
+-- what the spare bytes of a page say, but for its tail
 abbrev pub spareOf : Page → Spare
 spareOf x = record { kind = x .kind; member = x .member; stripe = x .stripe; copied = x .copied }
 
--- the page of some data and a spare
-abbrev pub pageFrom : List ℕ → Spare → Page
-pageFrom xs t =
-    record { bytes = xs; kind = t .kind; member = t .member; stripe = t .stripe; copied = t .copied }
+-- the page that is programmed with some data and a spare
+abbrev pub pageFrom : Layout → List ℕ → Spare → Page
+pageFrom l xs t =
+    record {
+      bytes = xs;
+      kind = t .kind;
+      member = t .member;
+      stripe = t .stripe;
+      copied = t .copied;
+      tail = blankTail l;
+    }
+
+-- its spare bytes
+abbrev pub spareFrom : Spare → List ℕ
+spareFrom t = t .kind ∷ t .member ∷ (digits 2 (t .stripe) ++ (digits 2 (t .copied) ++ replicate 2 255))
 
 -- the six numbers of two bytes at offset a
 abbrev pub sixAt : ℕ → List ℕ → List ℕ

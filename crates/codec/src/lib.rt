@@ -1,30 +1,64 @@
-//! Pages, records and the collection record in their images, and where the pages of a stripe stand.
+//! Pages, records and the collection record as they lie in their images, and where the pages of a stripe stand. All that knows
+//! offsets and lengths is in this crate.
+
+pub mod limits;
+pub mod put;
 
 pub mod scan;
 
 use bytes::byte;
-use bytes::copy;
 use bytes::number_at;
 use bytes::zeros;
 use layout::Geometry;
 ghost use mathlib.Core.Path.{_≡_};
 ghost use mathlib.Core.Bool.{true};
-ghost use mathlib.Core.List.{[], _∷_};
 ghost use Prim.Native.Nat.{ℕ, _+_, _*_, _/_, _%_, _^_, _≤_, _<_};
 ghost use lib.ListN.{length, getD};
 ghost use lib.Dec.{eqb};
 ghost use Rattle.layout.specs.Layout.{layoutOf, limits, pages};
 ghost use Rattle.layout.specs.Rotation.{parityChip, memberChip};
-ghost use Rattle.layout.specs.Page.{pageAt, bytesOfPage};
-ghost use Rattle.layout.specs.Record.{recordAt, bytesOfRecord};
-ghost use Rattle.layout.specs.Collection.{collectionAt, bytesOfCollection};
+ghost use Rattle.layout.specs.Page.{cleanKind, clean, pageAt};
+ghost use Rattle.layout.specs.Record.{recordAt};
+ghost use Rattle.layout.specs.Collection.{collectionAt};
 ghost use Rattle.layout.specs.Images.{slotAt, chipsLength};
 ghost use Rattle.codec.specs.Fit.{ChipsFit, RecordsFit, SlotsFit};
-ghost use Rattle.codec.specs.Views.{recordFrom, collectionFrom, spareOf, pageFrom, sixAt, SmallRecord, SmallSpare, CollectionIs};
+ghost use Rattle.codec.specs.Views.{recordFrom, spareOf, sixAt, SmallRecord, SmallSpare, CollectionIs};
 
-// The number of no page.
+// The bytes of a page number, and the number of no page.
+pub const WIDTH: usize = 2;
+
 pub const NONE: usize = 65535;
-// The kinds of the pages that a record names.
+// The bytes of a record, and where its fields are.
+pub const RECORD_BYTES: usize = 16 * WIDTH;
+
+const OLD_AT: usize = 6 * WIDTH;
+
+const PARITY_AT: usize = 12 * WIDTH;
+
+const BITMAP_AT: usize = 13 * WIDTH;
+
+const SLOT_AT: usize = BITMAP_AT + 1;
+
+const REST_AT: usize = SLOT_AT + 1;
+
+const REST_BYTES: usize = RECORD_BYTES - REST_AT;
+
+const LAST_AT: usize = REST_AT + 2;
+// Where the zeros of the collection record begin, and how many they are.
+const ZEROS_AT: usize = 6;
+
+const ZEROS: usize = RECORD_BYTES - ZEROS_AT;
+// The spare bytes of a page, and their tail: two bytes of 255.
+pub const SPARE_BYTES: usize = 8;
+
+const TAIL_AT: usize = 4 + WIDTH;
+
+const TAIL_BYTES: usize = SPARE_BYTES - TAIL_AT;
+
+const TAIL: usize = 65535;
+// The kinds of pages.
+pub const CLEAN: u16 = 255;
+
 pub const DATA: usize = 68;
 
 pub const PARITY: usize = 80;
@@ -87,7 +121,7 @@ pub fn page_offset(g: Geometry, c: usize, p: usize) -> usize
     let b = g.b as usize;
     let k = g.k as usize;
     let w = g.w as usize;
-    (c * (b * k) + p) * (w + 8)
+    (c * (b * k) + p) * (w + SPARE_BYTES)
 }
 
 // What the spare bytes of page p of chip c say.
@@ -103,6 +137,22 @@ pub fn spare_at(chips: &[u8], g: Geometry, c: usize, p: usize) -> Spare
         stripe: number_at(chips, a + 2),
         copied: number_at(chips, a + 4),
     }
+}
+
+// Whether a page of this kind is clean.
+pub fn is_clean_kind(kind: u16) -> bool
+    ensures { λ r. ⌜ r ≡ eqb kind cleanKind ⌝ }
+{
+    kind == CLEAN
+}
+
+// Whether page p of chip c is clean.
+pub fn is_clean(chips: &[u8], g: Geometry, c: usize, p: usize) -> bool
+    requires { ⌜ ChipsFit g (now chips) × (c ≤ g .n) × (p < pages (layoutOf g)) ⌝ }
+    ensures { λ r. ⌜ r ≡ clean (pageAt (layoutOf g) (now (chips .entry)) c p) ⌝ }
+{
+    let w = g.w as usize;
+    is_clean_kind(byte(chips, page_offset(g, c, p) + w) as u16)
 }
 
 // The data of page p of chip c.
@@ -147,14 +197,14 @@ pub fn record_at(records: &[u8], g: Geometry, j: usize) -> StripeRecord
     requires { ⌜ RecordsFit g (now records) × (j < g .s) ⌝ }
     ensures { λ r. ⌜ (recordFrom (layoutOf g) r ≡ recordAt (layoutOf g) (now (records .entry)) j) × SmallRecord r ⌝ }
 {
-    let a = j * 32;
+    let a = j * RECORD_BYTES;
     StripeRecord {
         current: six_at(records, a),
-        old: six_at(records, a + 12),
-        parity: number_at(records, a + 24),
-        bitmap: byte(records, a + 26),
-        slot: byte(records, a + 27),
-        rest: number_at(records, a + 28) + 65536 * number_at(records, a + 30),
+        old: six_at(records, a + OLD_AT),
+        parity: number_at(records, a + PARITY_AT),
+        bitmap: byte(records, a + BITMAP_AT),
+        slot: byte(records, a + SLOT_AT),
+        rest: number_at(records, a + REST_AT) + 65536 * number_at(records, a + LAST_AT),
     }
 }
 
@@ -163,7 +213,7 @@ pub fn slot_at(records: &[u8], g: Geometry, j: usize) -> usize
     requires { ⌜ RecordsFit g (now records) × (j < g .s) ⌝ }
     ensures { λ r. ⌜ (r ≡ recordAt (layoutOf g) (now (records .entry)) j .slot) × (r < 256) ⌝ }
 {
-    byte(records, j * 32 + 27)
+    byte(records, j * RECORD_BYTES + SLOT_AT)
 }
 
 // The collection record, but for the zeros behind it.
@@ -172,7 +222,7 @@ pub fn collection_at(records: &[u8], g: Geometry) -> CollectionRecord
     ensures { λ r. ⌜ CollectionIs r (collectionAt (layoutOf g) (now (records .entry))) ⌝ }
 {
     let s = g.s as usize;
-    let a = s * 32;
+    let a = s * RECORD_BYTES;
     CollectionRecord {
         phase: byte(records, a),
         chip: byte(records, a + 1),
@@ -187,8 +237,8 @@ pub fn collection_ends(records: &[u8], g: Geometry) -> bool
     ensures { λ r. ⌜ r ≡ eqb (collectionAt (layoutOf g) (now (records .entry)) .rest) 0 ⌝ }
 {
     let s = g.s as usize;
-    let a = s * 32 + 6;
-    let e = a + 26;
+    let a = s * RECORD_BYTES + ZEROS_AT;
+    let e = a + ZEROS;
     zeros(&records[a..e])
 }
 
@@ -198,129 +248,4 @@ pub fn bit_of(bitmap: usize, m: usize) -> bool
     ensures { λ r. ⌜ r ≡ eqb (bitmap / 2 ^ m % 2) 1 ⌝ }
 {
     (bitmap >> m) % 2 == 1
-}
-
-// The low byte of a number, and the next one.
-fn low(x: usize) -> u8
-    ensures { λ r. ⌜ r ≡ x % 256 ⌝ }
-{
-    (x % 256) as u8
-}
-
-fn high(x: usize) -> u8
-    ensures { λ r. ⌜ r ≡ x / 256 % 256 ⌝ }
-{
-    (x / 256 % 256) as u8
-}
-
-// The 32 bytes of a record.
-pub fn record_bytes(e: StripeRecord) -> [u8; 32]
-    requires { ⌜ SmallRecord e ⌝ }
-    ensures { λ r. ⌜ ((g : Geometry) → r ≡ bytesOfRecord (layoutOf g) (recordFrom (layoutOf g) e)) ⌝ }
-{
-    let c = e.current;
-    let o = e.old;
-    [
-        low(c[0]),
-        high(c[0]),
-        low(c[1]),
-        high(c[1]),
-        low(c[2]),
-        high(c[2]),
-        low(c[3]),
-        high(c[3]),
-        low(c[4]),
-        high(c[4]),
-        low(c[5]),
-        high(c[5]),
-        low(o[0]),
-        high(o[0]),
-        low(o[1]),
-        high(o[1]),
-        low(o[2]),
-        high(o[2]),
-        low(o[3]),
-        high(o[3]),
-        low(o[4]),
-        high(o[4]),
-        low(o[5]),
-        high(o[5]),
-        low(e.parity),
-        high(e.parity),
-        low(e.bitmap),
-        low(e.slot),
-        low(e.rest),
-        high(e.rest),
-        low(e.rest / 65536),
-        high(e.rest / 65536),
-    ]
-}
-
-// The 32 bytes of a collection record.
-pub fn collection_bytes(co: CollectionRecord) -> [u8; 32]
-    requires { ⌜ (co .phase < 256) × (co .chip < 256) ⌝ }
-    ensures { λ r. ⌜ ((g : Geometry) → r ≡ bytesOfCollection (layoutOf g) (collectionFrom co)) ⌝ }
-{
-    [
-        low(co.phase),
-        low(co.chip),
-        low(co.victim),
-        high(co.victim),
-        low(co.destination),
-        high(co.destination),
-        0,
-        0,
-        0,
-        0,
-        0,
-        0,
-        0,
-        0,
-        0,
-        0,
-        0,
-        0,
-        0,
-        0,
-        0,
-        0,
-        0,
-        0,
-        0,
-        0,
-        0,
-        0,
-        0,
-        0,
-        0,
-        0,
-    ]
-}
-
-// The 8 spare bytes of a page.
-fn spare_bytes(t: Spare) -> [u8; 8]
-    ensures { λ r. ⌜ r ≡ t .kind % 256 ∷ t .member % 256 ∷ t .stripe % 256 ∷ t .stripe / 256 % 256 ∷ t .copied % 256 ∷ t .copied / 256 % 256 ∷ 255 ∷ 255 ∷ [] ⌝ }
-{
-    [
-        low(t.kind),
-        low(t.member),
-        low(t.stripe),
-        high(t.stripe),
-        low(t.copied),
-        high(t.copied),
-        255,
-        255,
-    ]
-}
-
-// The page becomes the data and the spare bytes.
-pub fn fill_page(page: &mut [u8], bytes: &[u8], t: Spare)
-    requires { ⌜ (length (now page) ≡ length (now bytes) + 8) × SmallSpare t ⌝ }
-    ensures { λ _. ⌜ ((g : Geometry) → now (page .exit) ≡ bytesOfPage (layoutOf g) (pageFrom (now (bytes .entry)) t)) ⌝ }
-{
-    let w = bytes.len();
-    let e = w + 8;
-    let spare = spare_bytes(t);
-    copy(&mut page[0..w], bytes);
-    copy(&mut page[w..e], &spare);
 }

@@ -1,6 +1,7 @@
 //! Many pages or records looked at in one go, as the checks do.
 
 use crate::NONE;
+use crate::is_clean_kind;
 use crate::page_offset;
 use bytes::byte;
 use bytes::number_at;
@@ -11,7 +12,7 @@ ghost use Prim.Native.Nat.{ℕ, _+_, _*_, _≤_, _<_};
 ghost use lib.ListN.{length, getD};
 ghost use Rattle.ranges.specs.Look.{allBelow};
 ghost use Rattle.layout.specs.Layout.{layoutOf, limits, pages};
-ghost use Rattle.layout.specs.Page.{pageAt, clean};
+ghost use Rattle.layout.specs.Page.{pageAt};
 ghost use Rattle.layout.specs.Record.{recordAt};
 ghost use Rattle.codec.specs.Fit.{ChipsFit, RecordsFit};
 ghost use Rattle.codec.specs.Scan.{TagIs, tagOf, cleanTag, StampsOf, numberOf, Ranges, WordAt, writtenIn, Glanced};
@@ -32,15 +33,6 @@ pub fn number_in(records: &[u8], g: Geometry, j: usize, i: usize) -> usize
     number_at(records, j * 32 + 2 * i)
 }
 
-// Whether page p of chip c is clean.
-pub fn is_clean(chips: &[u8], g: Geometry, c: usize, p: usize) -> bool
-    requires { ⌜ ChipsFit g (now chips) × (c ≤ g .n) × (p < pages (layoutOf g)) ⌝ }
-    ensures { λ r. ⌜ r ≡ clean (pageAt (layoutOf g) (now (chips .entry)) c p) ⌝ }
-{
-    let w = g.w as usize;
-    byte(chips, page_offset(g, c, p) + w) == 255
-}
-
 // The tag of a page: its kind, and behind it its member.
 pub fn tag_of(kind: u16, member: u16) -> u16
     requires { ⌜ (kind < 256) × (member < 256) ⌝ }
@@ -53,7 +45,7 @@ pub fn tag_of(kind: u16, member: u16) -> u16
 pub fn is_clean_tag(tag: u16) -> bool
     ensures { λ r. ⌜ r ≡ cleanTag tag ⌝ }
 {
-    tag % 256 == 255
+    is_clean_kind(tag % 256)
 }
 
 // The tag at offset a.

@@ -51,9 +51,9 @@ use Rattle.names.proofs.Statements.{usable, stamps-pass, sound, checked}
 -- a page that is fetched and programmed with its stamp is its copy
 pub copy-ran : (l : Layout) (c p q : ℕ) (x : ℕ → Page) (t : Spare) {ys : List ℕ} {reads : ℕ} (run r : Progress) (s u : Images) → ys ≡ x p .bytes → reads ≡ 1 → t ≡ spareOf (x p)
     → Ran l run
-    (record { reads = reads; store = program c q (pageFrom ys (record { kind = t .kind; member = t .member; stripe = t .stripe; copied = p })) } ∷ [])
+    (record { reads = reads; store = program c q (pageFrom l ys (record { kind = t .kind; member = t .member; stripe = t .stripe; copied = p })) } ∷ [])
     r s u
-    → Ran l run (fed (asStands x p) (λ xs. program c q (copyOf p (x p) xs)) ∷ []) r s u
+    → Ran l run (fed (asStands x p) (λ xs. program c q (copyOf l p (x p) xs)) ∷ []) r s u
 copy-ran l c p q x t run r s u data-same one stamp-same h = rw (data-same, one, stamp-same) at h
 
 -- what is fetched in the role of page p is the page as it stands
@@ -119,7 +119,7 @@ module _ {g : Geometry} {records x₀ : List ℕ} {c v d : ℕ} {p : Progress} w
         → pageAt (layoutOf g) x c (pageIn (layoutOf g) v i) ≡ pageAt (layoutOf g) x₀ c (pageIn (layoutOf g) v i)
         → {r : Progress} {y : List ℕ} → length y ≡ length x
         → ((rs zs : List ℕ) → Ran (layoutOf g) q
-        (fed (asStands (pageAt (layoutOf g) x c) (v * g .k + i)) (λ xs. program c (d * g .k + copies) (copyOf (v * g .k + i) (pageAt (layoutOf g) x c (v * g .k + i)) xs)) ∷ [])
+        (fed (asStands (pageAt (layoutOf g) x c) (v * g .k + i)) (λ xs. program c (d * g .k + copies) (copyOf (layoutOf g) (v * g .k + i) (pageAt (layoutOf g) x c (v * g .k + i)) xs)) ∷ [])
         r (images x rs zs) (images y rs zs))
         → Copying g records x₀ c v d p (i + 1) (copies + 1) r y
     unfolding copyFrom

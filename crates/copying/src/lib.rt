@@ -44,7 +44,7 @@ fn copy_page(
     requires { ⌜ ChipsFit g (now chips) × RecordsFit g (now records) × SlotsFit g (now slots) × (c ≤ g .n) × (p < pages (layoutOf g)) × (q < pages (layoutOf g))
         × Sane run × Copyable (layoutOf g) (now chips) (now records) c p ⌝ }
     ensures { λ r. ⌜ ((rs zs : List ℕ) → Ran (layoutOf g) run
-        (record { reads = 1; store = programStore c q (copyOf p (pageAt (layoutOf g) (now (chips .entry)) c p) (pageAt (layoutOf g) (now (chips .entry)) c p .bytes)) } ∷ [])
+        (record { reads = 1; store = programStore c q (copyOf (layoutOf g) p (pageAt (layoutOf g) (now (chips .entry)) c p) (pageAt (layoutOf g) (now (chips .entry)) c p .bytes)) } ∷ [])
         r (images (now (chips .entry)) rs zs) (images (now (chips .exit)) rs zs)) ⌝ }
 {
     let mut work = [0u8; 4096];

@@ -1,14 +1,13 @@
 //! The four kinds of store, each under the allowance: one page program, block erase, slot or record.
 
-use bytes::copy;
-use bytes::fill;
 use codec::CollectionRecord;
 use codec::Spare;
 use codec::StripeRecord;
-use codec::collection_bytes;
-use codec::fill_page;
-use codec::page_offset;
-use codec::record_bytes;
+use codec::put::put_clean_block;
+use codec::put::put_collection;
+use codec::put::put_page;
+use codec::put::put_record;
+use codec::put::put_slot;
 use layout::Geometry;
 use steps::Counts;
 use steps::Progress;
@@ -18,12 +17,11 @@ ghost use mathlib.Core.List.{List, [], _∷_};
 ghost use Prim.Native.Nat.{ℕ, _+_, _-_, _^_, _≤_, _<_, min};
 ghost use lib.ListN.{length};
 ghost use Rattle.layout.specs.Layout.{layoutOf, pages};
-ghost use Rattle.layout.specs.Record.{emptyRecord};
-ghost use Rattle.steps.specs.Store.{Store, program as programStore, erase as eraseStore, slot as slotStore, stripe, collection, recorded, apply};
-ghost use Rattle.steps.specs.Steps.{plain, noCounts, programsOf, erasesOf};
+ghost use Rattle.steps.specs.Store.{program as programStore, erase as eraseStore, slot as slotStore, stripe, collection};
+ghost use Rattle.steps.specs.Steps.{plain, noCounts};
 ghost use Rattle.codec.specs.Fit.{ChipsFit, RecordsFit, SlotsFit};
 ghost use Rattle.codec.specs.Views.{recordFrom, collectionFrom, pageFrom, SmallRecord, SmallSpare};
-ghost use Rattle.steps.specs.Allowance.{started, Sane, Ran, images};
+ghost use Rattle.steps.specs.Allowance.{started, countingAll, Sane, Ran, images};
 
 // At the beginning of a call. No list is as long as 2^59 stores, so a larger allowance is as good as that, and eight reads for each
 // of them still fit a counter.
@@ -86,6 +84,39 @@ fn count(p: Progress, reads: u64, programs: u64, erases: u64) -> Progress
     }
 }
 
+// The lesser of two numbers.
+fn lesser(a: u64, b: u64) -> u64
+    ensures { λ r. ⌜ r ≡ min a b ⌝ }
+{
+    if a < b { a } else { b }
+}
+
+// How many of the stores that are due the allowance holds.
+pub fn held(p: Progress, due: usize) -> usize
+    ensures { λ r. ⌜ r ≡ min (p .left) due ⌝ }
+{
+    lesser(p.left, due as u64) as usize
+}
+
+// So many stores alike are due, for which no page is read or programmed: those that the allowance holds are counted.
+pub fn count_all(p: Progress, due: u64, erases: u64) -> Progress
+    requires { ⌜ Sane p × (erases ≤ 1) ⌝ }
+    ensures { λ r. ⌜ r ≡ countingAll p due erases ⌝ }
+{
+    let made = lesser(p.left, due);
+    let c = p.counts;
+    Progress {
+        counts: Counts {
+            reads: c.reads,
+            programs: c.programs,
+            erases: c.erases + made * erases,
+            stores: c.stores + made,
+        },
+        left: p.left - made,
+        cut: p.cut | (p.left < due),
+    }
+}
+
 // Programs page q of chip c with the data and the spare, for which so many pages were read.
 pub fn program(
     chips: &mut [u8],
@@ -99,16 +130,13 @@ pub fn program(
 ) -> Progress
     requires { ⌜ ChipsFit g (now chips) × (c ≤ g .n) × (q < pages (layoutOf g)) × (length (now bytes) ≡ g .w) × SmallSpare t × (reads ≤ 8) × Sane p ⌝ }
     ensures { λ r. ⌜ ((rs zs : List ℕ) → Ran (layoutOf g) p
-        (record { reads = reads; store = programStore c q (pageFrom (now (bytes .entry)) t) } ∷ [])
+        (record { reads = reads; store = programStore c q (pageFrom (layoutOf g) (now (bytes .entry)) t) } ∷ [])
         r (images (now (chips .entry)) rs zs) (images (now (chips .exit)) rs zs)) ⌝ }
 {
     if p.left == 0 {
         return stop(p);
     }
-    let w = g.w as usize;
-    let a = page_offset(g, c, q);
-    let e = a + (w + 8);
-    fill_page(&mut chips[a..e], bytes, t);
+    put_page(chips, g, c, q, bytes, t);
     count(p, reads, 1, 0)
 }
 
@@ -121,11 +149,7 @@ pub fn erase(chips: &mut [u8], g: Geometry, c: usize, b: usize, p: Progress) -> 
     if p.left == 0 {
         return stop(p);
     }
-    let k = g.k as usize;
-    let w = g.w as usize;
-    let a = page_offset(g, c, b * k);
-    let e = a + k * (w + 8);
-    fill(&mut chips[a..e], 255);
+    put_clean_block(chips, g, c, b);
     count(p, 0, 0, 1)
 }
 
@@ -145,29 +169,8 @@ pub fn store_slot(
     if p.left == 0 {
         return stop(p);
     }
-    let w = g.w as usize;
-    let a = i * w;
-    let e = a + w;
-    copy(&mut slots[a..e], bytes);
+    put_slot(slots, g, i, bytes);
     count(p, reads, 0, 0)
-}
-
-// Stores 32 bytes as record j of the S + 1 and counts one store. Which store it is, the caller says: any x without a program or an
-// erase that makes just this of the images.
-fn store_bytes(records: &mut [u8], g: Geometry, j: usize, bytes: &[u8], p: Progress) -> Progress
-    requires { ⌜ RecordsFit g (now records) × (j ≤ g .s) × (length (now bytes) ≡ 32) × Sane p ⌝ }
-    ensures { λ r. ⌜ ((x : Store) (cs zs : List ℕ) → programsOf x ≡ 0 → erasesOf x ≡ 0
-        → images cs (recorded (layoutOf g) j (now (bytes .entry)) (now (records .entry))) zs
-        ≡ apply (layoutOf g) x (images cs (now (records .entry)) zs)
-        → Ran (layoutOf g) p (plain x ∷ []) r (images cs (now (records .entry)) zs) (images cs (now (records .exit)) zs)) ⌝ }
-{
-    if p.left == 0 {
-        return stop(p);
-    }
-    let a = j * 32;
-    let e = a + 32;
-    copy(&mut records[a..e], bytes);
-    count(p, 0, 0, 0)
 }
 
 // Stores the record of stripe j.
@@ -182,21 +185,11 @@ pub fn store_record(
     ensures { λ r. ⌜ ((cs zs : List ℕ) → Ran (layoutOf g) p (plain (stripe j (recordFrom (layoutOf g) e)) ∷ [])
         r (images cs (now (records .entry)) zs) (images cs (now (records .exit)) zs)) ⌝ }
 {
-    let bytes = record_bytes(e);
-    store_bytes(records, g, j, &bytes, p)
-}
-
-// Twenty-six bytes of 255, a 0, a 255 and four of 0.
-const EMPTY: [u8; 32] =
-    *b"\xff\xff\xff\xff\xff\xff\xff\xff\xff\xff\xff\xff\xff\xff\xff\xff\xff\xff\xff\xff\xff\xff\xff\xff\xff\xff\x00\xff\x00\x00\x00\x00";
-
-// Stores the empty record as the record of stripe j.
-pub fn store_empty(records: &mut [u8], g: Geometry, j: usize, p: Progress) -> Progress
-    requires { ⌜ RecordsFit g (now records) × (j < g .s) × Sane p ⌝ }
-    ensures { λ r. ⌜ ((cs zs : List ℕ) → Ran (layoutOf g) p (plain (stripe j (emptyRecord (layoutOf g))) ∷ [])
-        r (images cs (now (records .entry)) zs) (images cs (now (records .exit)) zs)) ⌝ }
-{
-    store_bytes(records, g, j, &EMPTY, p)
+    if p.left == 0 {
+        return stop(p);
+    }
+    put_record(records, g, j, e);
+    count(p, 0, 0, 0)
 }
 
 // Stores the collection record.
@@ -210,7 +203,9 @@ pub fn store_collection(
     ensures { λ r. ⌜ ((cs zs : List ℕ) → Ran (layoutOf g) p (plain (collection (collectionFrom co)) ∷ [])
         r (images cs (now (records .entry)) zs) (images cs (now (records .exit)) zs)) ⌝ }
 {
-    let s = g.s as usize;
-    let bytes = collection_bytes(co);
-    store_bytes(records, g, s, &bytes, p)
+    if p.left == 0 {
+        return stop(p);
+    }
+    put_collection(records, g, co);
+    count(p, 0, 0, 0)
 }

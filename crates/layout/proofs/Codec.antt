@@ -5,7 +5,7 @@ use native.Mathlib.Decide.{decLt}
 use native.Mathlib.Omega.{arith}
 use mathlib.Core.Path.{_≡_, refl, sym, ap, _∙_, fun-ext}
 use mathlib.Core.List.{List, [], _∷_, _++_, append-assoc}
-use lib.ListN.{length, getD, replicate, length-append, length-replicate}
+use lib.ListN.{length, getD, length-append, length-replicate}
 use lib.Seq.{getD-append-add, getD-at, take-at}
 use borrow.Author.Tests.{lt-ltb, le-ltb}
 use Rattle.bytes.specs.Number.{number, digits}
@@ -13,7 +13,7 @@ use Rattle.bytes.specs.Units.{part}
 use Rattle.bytes.proofs.Units.{apart, part-append-left, part-append-from, part-whole}
 use Rattle.bytes.proofs.Numbers.{length-digits, number-digits}
 use Rattle.layout.specs.Layout.{Layout, none, pageBytes, recordBytes}
-use Rattle.layout.specs.Page.{Page, pageOf, bytesOfPage}
+use Rattle.layout.specs.Page.{Page, tailBytes, blankTail, pageOf, bytesOfPage}
 use Rattle.layout.specs.Record.{Record, row, restBytes, sixFrom, recordOf, bytesOfRecord}
 use Rattle.layout.specs.Collection.{Collection, collectionOf, bytesOfCollection}
 
@@ -36,6 +36,7 @@ module _ (l : Layout) where
     pub whole : length (x .bytes) ≡ W
     pub stripe : x .stripe < 256 ^ 2
     pub copied : x .copied < 256 ^ D
+    pub tail : length (x .tail) ≡ tailBytes l
 
   -- a record whose numbers fit their fields, and that has none beyond the six
   pub record RecordFits (r : Record) : Type 0 where
@@ -51,12 +52,17 @@ module _ (l : Layout) where
     pub destination : co .destination < 256 ^ 2
     pub rest : co .rest < 256 ^ (recordBytes l - 6)
 
+-- the tail of a page that is programmed
+pub length-blank : (l : Layout) → length (blankTail l) ≡ tailBytes l
+unfolding blankTail
+length-blank l = length-replicate (tailBytes l) 255
+
 module _ (l : Layout) (narrow : l .D ≤ 4) where
   open Layout l using (W, D)
 
   pub length-page : (x : Page) → PageFits l x → length (bytesOfPage l x) ≡ pageBytes l
   unfolding bytesOfPage
-  length-page x f = simp (length-append, length-digits, length-replicate) (omega (arith, f .whole))
+  length-page x f = simp (length-append, length-digits) (omega (arith, f .whole, f .tail))
 
   -- the two single bytes of a spare, and what stands behind them
   behind : (a k : ℕ) (x y : ℕ) (ys : List ℕ) → part (2 + a) k (x ∷ y ∷ ys) ≡ part a k ys
@@ -65,7 +71,7 @@ module _ (l : Layout) (narrow : l .D ≤ 4) where
   page-stripe : (x : Page) → PageFits l x → pageOf l (bytesOfPage l x) .stripe ≡ x .stripe
   unfolding bytesOfPage pageOf
   page-stripe x f =
-      let tail = digits D (x .copied) ++ replicate (4 - D) 255 in
+      let tail = digits D (x .copied) ++ x .tail in
       let spare = x .kind ∷ x .member ∷ (digits 2 (x .stripe) ++ tail) in
       ap number (part-append-from W 2 2 (x .bytes) spare (f .whole) ∙ behind 0 2 (x .kind) (x .member) (digits 2 (x .stripe) ++ tail))
       ∙ number-first 2 (x .stripe) tail (f .stripe)
@@ -73,24 +79,38 @@ module _ (l : Layout) (narrow : l .D ≤ 4) where
   page-copied : (x : Page) → PageFits l x → pageOf l (bytesOfPage l x) .copied ≡ x .copied
   unfolding bytesOfPage pageOf
   page-copied x f =
-      let tail = digits D (x .copied) ++ replicate (4 - D) 255 in
+      let tail = digits D (x .copied) ++ x .tail in
       let spare = x .kind ∷ x .member ∷ (digits 2 (x .stripe) ++ tail) in
       ap number
       (part-append-from W 4 D (x .bytes) spare (f .whole)
       ∙ behind 2 D (x .kind) (x .member) (digits 2 (x .stripe) ++ tail)
       ∙ part-append-from 2 0 D (digits 2 (x .stripe)) tail (length-digits 2 (x .stripe)))
-      ∙ number-first D (x .copied) (replicate (4 - D) 255) (f .copied)
+      ∙ number-first D (x .copied) (x .tail) (f .copied)
+
+  page-tail : (x : Page) → PageFits l x → pageOf l (bytesOfPage l x) .tail ≡ x .tail
+  unfolding bytesOfPage pageOf
+  page-tail x f =
+      let tail = digits D (x .copied) ++ x .tail in
+      let spare = x .kind ∷ x .member ∷ (digits 2 (x .stripe) ++ tail) in
+      let at : W + 4 + D ≡ W + (2 + (2 + D)) = omega arith in
+      rw at
+      (part-append-from W (2 + (2 + D)) (tailBytes l) (x .bytes) spare (f .whole)
+      ∙ behind (2 + D) (tailBytes l) (x .kind) (x .member) (digits 2 (x .stripe) ++ tail)
+      ∙ part-append-from 2 D (tailBytes l) (digits 2 (x .stripe)) tail (length-digits 2 (x .stripe))
+      ∙ (rw add-zero at (part-append-from D 0 (tailBytes l) (digits D (x .copied)) (x .tail) (length-digits D (x .copied))))
+      ∙ part-whole (tailBytes l) (x .tail) (f .tail))
 
   pub page-decodes : (x : Page) → PageFits l x → pageOf l (bytesOfPage l x) ≡ x
   unfolding bytesOfPage pageOf
   page-decodes x f =
-      let rest = digits 2 (x .stripe) ++ (digits D (x .copied) ++ replicate (4 - D) 255) in
+      let rest = digits 2 (x .stripe) ++ (digits D (x .copied) ++ x .tail) in
       λ i. record {
         bytes = take-at (x .bytes) (x .kind ∷ x .member ∷ rest) W (f .whole) i;
         kind = getD-at (x .bytes) (x .kind) (x .member ∷ rest) 0 W (f .whole) i;
         member = getD-from W 1 (x .bytes) (x .kind ∷ x .member ∷ rest) 0 (f .whole) i;
         stripe = page-stripe x f i;
         copied = page-copied x f i;
+        tail = page-tail x f i;
       }
 
 -- a row of numbers in d bytes each: its length, and number m of it

@@ -1,5 +1,5 @@
 -- The worked examples of document 01 on rotation and limits, and the fixed byte string of the empty record.
-use Prim.Native.Nat.{ℕ, _+_, _-_, _*_, _%_, _≤_}
+use Prim.Native.Nat.{ℕ, _+_, _*_, _≤_}
 use native.Mathlib.Omega.{arith}
 use mathlib.Core.Path.{_≡_, refl}
 use mathlib.Core.Bool.{true, false}
@@ -9,10 +9,10 @@ use Rattle.bytes.specs.Number.{digits}
 use Rattle.ranges.specs.Rows.{Rows}
 use Rattle.ranges.proofs.Looks.{by-test}
 use Rattle.layout.specs.declared.Geometry.{Geometry}
-use Rattle.layout.specs.Layout.{Layout, layoutOf, none, limits}
+use Rattle.layout.specs.Layout.{Layout, layoutOf, none, sizes, limits}
 use Rattle.layout.specs.Rotation.{parityChip, memberChip, memberOf, stripeOf}
 use Rattle.layout.specs.Record.{bytesOfRecord, emptyRecord, row}
-use Rattle.layout.proofs.Limits.{within, limited}
+use Rattle.layout.proofs.Limits.{within, sized}
 
 abbrev pub geometry : ℕ → ℕ → ℕ → ℕ → ℕ → ℕ → Layout
 geometry n w k b s m = layoutOf (record { n = n; w = w; k = k; b = b; s = s; m = m })
@@ -34,21 +34,11 @@ module _ (l : Layout) where
   unfolding memberChip parityChip
   page-chips e = rw e (refl, (refl, (refl, tt)))
 
-  -- what the limits ask of N and W alone
-  pub record Sized : Type 0 where
-    pub members-low : 2 ≤ N
-    pub members-high : N ≤ 6
-    pub bytes-low : 16 ≤ W
-    pub bytes-high : W ≤ 4096
-    pub bytes-unit : W % 16 ≡ 0
-
   -- "771 × 85 pages accepted", of page numbers of two bytes
-  pub most-pages : Sized → D ≡ 2 → B ≡ 771 → K ≡ 85 → 1 ≤ S → 1 ≤ M → M ≤ 254 → S + M + 1 ≤ 770 * 85 → limits l ≡ true
+  pub most-pages : sizes l ≡ true → D ≡ 2 → B ≡ 771 → K ≡ 85 → 1 ≤ S → 1 ≤ M → M ≤ 254 → S + M + 1 ≤ 770 * 85 → limits l ≡ true
   unfolding none
-  most-pages w d b k s m₁ m₂ room =
-      let numbered : B * K ≤ none l = rw (b, k, d) (omega arith) in
-      let fits : S + M + 1 ≤ (B - 1) * K = rw (b, k) room in
-      limited l (omega (arith, w))
+  most-pages e d b k s m₁ m₂ room =
+      sized l e (rw (k, d) (omega arith, omega arith)) (rw (b, d) (omega arith, omega arith)) (rw (b, k, d) (omega arith)) (s, omega arith) (m₁, m₂) (rw (b, k) room)
 
   -- "512 × 128 is refusal 1"
   pub too-many-pages : D ≡ 2 → B ≡ 512 → K ≡ 128 → limits l ≡ false
@@ -56,12 +46,11 @@ module _ (l : Layout) where
   too-many-pages d b k = by-test (limits l) (λ e. absurd (omega (arith, rw (b, k, d) at (within l e .pages-numbered)))) (λ e. e)
 
   -- "K = 4, B = 4, M = 2: S = 9 accepted, 10 is refusal 1."
-  pub most-stripes : Sized → D ≡ 2 → K ≡ 4 → B ≡ 4 → M ≡ 2 → S ≡ 9 → limits l ≡ true
+  pub most-stripes : sizes l ≡ true → D ≡ 2 → K ≡ 4 → B ≡ 4 → M ≡ 2 → S ≡ 9 → limits l ≡ true
   unfolding none
-  most-stripes w d k b m s =
-      let numbered : B * K ≤ none l = rw (b, k, d) (omega arith) in
-      let fits : S + M + 1 ≤ (B - 1) * K = rw (b, k, s, m) (omega arith) in
-      limited l (omega (arith, w))
+  most-stripes e d k b m s =
+      sized l e (rw (k, d) (omega arith, omega arith)) (rw (b, d) (omega arith, omega arith)) (rw (b, k, d) (omega arith)) (omega arith, omega arith)
+      (omega arith, omega arith) (rw (b, k, s, m) (omega arith))
 
   pub too-many-stripes : K ≡ 4 → B ≡ 4 → M ≡ 2 → S ≡ 10 → limits l ≡ false
   too-many-stripes k b m s = by-test (limits l) (λ e. absurd (omega (arith, rw (b, k, m, s) at (within l e .room)))) (λ e. e)

@@ -1,6 +1,6 @@
 -- Document 01, "Geometry and the three lent images": the numbers that fix a store, and their limits.
 use Prim.Native.Nat.{ℕ, _+_, _-_, _*_, _%_, _^_}
-use mathlib.Core.Bool.{Bool, _&&_}
+use mathlib.Core.Bool.{Bool, cond, _&&_}
 use lib.Dec.{leb, ltb, eqb}
 use Rattle.layout.specs.declared.Geometry.{Geometry}
 
@@ -64,15 +64,33 @@ module _ (l : Layout) where
   abbrev pub recordBytes : ℕ
   recordBytes = 16 * D
 
-  -- "N .., 2 to 6"; "W .., 16 to 4,096, a multiple of 16"; "K .., 2 to 128"; "B .., 2 to 1,024"; "B × K at most 65,535";
+  -- page numbers of one or two bytes, whose limits are those of document 01; wider ones have those of document 02, 8
+  abbrev short : Bool
+  short = leb D 2
+
+  -- "K .., 2 to 128"
+  abbrev pub mostK : ℕ
+  mostK = cond short 128 256
+
+  -- "B .., 2 to 1,024"
+  abbrev pub mostB : ℕ
+  mostB = cond short 1024 65535
+
+  -- "B × K at most 65,535": each page has a number, and the largest is none
+  abbrev pub mostPages : ℕ
+  mostPages = none
+
+  -- "N .., 2 to 6"; "W .., 16 to 4,096, a multiple of 16"
+  abbrev pub sizes : Bool
+  sizes = leb 2 N && leb N 6 && leb 16 W && leb W 4096 && eqb (W % 16) 0
+
   -- "S .., 1 to 65,535"; "M .., 1 to 254"; "S + M + 1 at most (B − 1) × K"
   unfoldable pub limits : Bool
   limits =
-      leb 2 N && leb N 6
-      && leb 16 W && leb W 4096 && eqb (W % 16) 0
-      && leb 2 K && leb K 128
-      && leb 2 B && leb B 1024
-      && leb (B * K) none
+      sizes
+      && leb 2 K && leb K mostK
+      && leb 2 B && leb B mostB
+      && leb (B * K) mostPages
       && leb 1 S && leb S 65535
       && leb 1 M && leb M 254
       && leb (S + M + 1) ((B - 1) * K)

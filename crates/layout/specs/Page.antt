@@ -16,6 +16,8 @@ pub record Page : Type 0 where
   pub stripe : ℕ
   -- the page that this one is a copy of
   pub copied : ℕ
+  -- the spare bytes behind these
+  pub tail : List ℕ
 
 -- "kind (255 clean, 68 data, 80 parity)"
 abbrev pub cleanKind : ℕ
@@ -36,6 +38,14 @@ clean x = eqb (x .kind) cleanKind
 module _ (l : Layout) where
   open Layout l using (W, D)
 
+  -- the spare bytes behind the copied-from page
+  abbrev pub tailBytes : ℕ
+  tailBytes = 4 - D
+
+  -- "two bytes of 255"
+  unfoldable pub blankTail : List ℕ
+  blankTail = replicate tailBytes 255
+
   -- "After the data stand 8 spare bytes: kind, member, stripe (2 bytes), copied-from page (2 bytes), two bytes of 255."
   unfoldable pub pageOf : List ℕ → Page
   pageOf xs =
@@ -45,12 +55,13 @@ module _ (l : Layout) where
         member = getD xs (W + 1) 0;
         stripe = number (part (W + 2) 2 xs);
         copied = number (part (W + 4) D xs);
+        tail = part (W + 4 + D) tailBytes xs;
       }
 
   -- the bytes of a page that is programmed
   unfoldable pub bytesOfPage : Page → List ℕ
   bytesOfPage x =
-      x .bytes ++ (x .kind ∷ x .member ∷ (digits 2 (x .stripe) ++ (digits D (x .copied) ++ replicate (4 - D) 255)))
+      x .bytes ++ (x .kind ∷ x .member ∷ (digits 2 (x .stripe) ++ (digits D (x .copied) ++ x .tail)))
 
   -- "N + 1 chips end to end, each B × K pages": page p of the stretch of chip c
   unfoldable pub pageAt : List ℕ → ℕ → ℕ → Page

@@ -2,12 +2,12 @@
 //! records and spares has found.
 
 use codec::collection_at;
+use codec::limits::geometry_passes;
+use codec::limits::lengths_pass;
 use layout::Geometry;
 use ranges::Found;
 use ranges::Least;
 use records::SlotScan;
-use records::geometry_passes;
-use records::lengths_pass;
 use records::scan_records;
 use rules::Check;
 use rules::Refusal;

@@ -41,12 +41,6 @@ pub fn with_next(least: Least, n: usize, passes: bool, measure: usize) -> Least
     let at = least.at;
     match at {
         Found::Nothing => here,
-        Found::At(_) => {
-            if measure < least.measure {
-                here
-            } else {
-                least
-            }
-        }
+        Found::At(_) => { if measure < least.measure { here } else { least } }
     }
 }

@@ -1,4 +1,3 @@
 pub mod Plains
-pub mod Sizes
 pub mod Tables
 pub mod Totals

@@ -1,4 +1,4 @@
-//! The checks of a geometry, of the buffers' lengths and of the records.
+//! The checks of the records.
 
 use codec::NONE;
 use codec::StripeRecord;
@@ -24,52 +24,12 @@ ghost use Rattle.ranges.specs.Look.{firstBelow};
 ghost use Rattle.layout.specs.Layout.{layoutOf, limits};
 ghost use Rattle.layout.specs.Record.{Record, recordAt};
 ghost use Rattle.layout.specs.Collection.{collectionAt};
-ghost use Rattle.layout.specs.Images.{lengths};
 ghost use Rattle.rules.specs.Sound.{memberSound, recordSound, collectionSound, recordsSound};
 ghost use Rattle.codec.specs.Fit.{RecordsFit};
 ghost use Rattle.codec.specs.Scan.{Glanced};
 ghost use Rattle.codec.specs.Views.{recordFrom};
 ghost use Rattle.records.specs.Slots.{slotScan, Tallied, Adds, unmarked};
 ghost use Rattle.names.specs.Stamps.{recordNames, namesLost, namesKept};
-
-// Whether the geometry is within the limits. No product is formed before its factors are known to be small.
-pub fn geometry_passes(g: Geometry) -> bool
-    ensures { λ r. ⌜ r ≡ limits (layoutOf g) ⌝ }
-{
-    let sizes = (2 <= g.n)
-        & (g.n <= 6)
-        & (16 <= g.w)
-        & (g.w <= 4096)
-        & (g.w % 16 == 0)
-        & (2 <= g.k)
-        & (g.k <= 128)
-        & (2 <= g.b)
-        & (g.b <= 1024);
-    if !sizes {
-        return false;
-    }
-    let counts = (g.b * g.k <= 65535) & (1 <= g.s) & (g.s <= 65535) & (1 <= g.m) & (g.m <= 254);
-    if !counts {
-        return false;
-    }
-    g.s + g.m + 1 <= (g.b - 1) * g.k
-}
-
-// Whether each image has its length.
-pub fn lengths_pass(g: Geometry, chips: &[u8], records: &[u8], slots: &[u8]) -> bool
-    requires { ⌜ limits (layoutOf g) ≡ true ⌝ }
-    ensures { λ r. ⌜ r ≡ lengths (layoutOf g) (record { chips = now (chips .entry); records = now (records .entry); slots = now (slots .entry) }) ⌝ }
-{
-    let n = g.n as usize;
-    let w = g.w as usize;
-    let k = g.k as usize;
-    let b = g.b as usize;
-    let s = g.s as usize;
-    let m = g.m as usize;
-    (chips.len() == (n + 1) * (b * k) * (w + 8))
-        & (records.len() == (s + 1) * 32)
-        & (slots.len() == (m + 1) * w)
-}
 
 // Whether the record is sound about member m.
 fn member_passes(g: Geometry, e: StripeRecord, m: usize) -> bool

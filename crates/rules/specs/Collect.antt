@@ -5,7 +5,7 @@ use mathlib.Core.List.{List, [], _∷_, _++_}
 use Rattle.ranges.specs.declared.Found.{Found}
 use Rattle.ranges.specs.Look.{someBelow, countBelow, leastBelow, whenFound}
 use Rattle.layout.specs.Layout.{Layout, pageIn}
-use Rattle.layout.specs.Page.{Page, pageAt}
+use Rattle.layout.specs.Page.{Page, blankTail, pageAt}
 use Rattle.layout.specs.Record.{Record, recordAt}
 use Rattle.layout.specs.Collection.{Collection}
 use Rattle.layout.specs.Images.{Images}
@@ -21,13 +21,13 @@ abbrev pub phase : ℕ → ℕ → ℕ → ℕ → Collection
 phase n c victim destination =
     record { phase = n; chip = c; victim = victim; destination = destination; rest = 0 }
 
--- a copy of page p, which is x, with the data xs: its stamp, and where it is copied from
-abbrev pub copyOf : ℕ → Page → List ℕ → Page
-copyOf p x xs =
-    record { bytes = xs; kind = x .kind; member = x .member; stripe = x .stripe; copied = p }
-
 module _ (l : Layout) where
   open Layout l using (K, B)
+
+  -- a copy of page p, which is x, with the data xs: its stamp, and where it is copied from
+  abbrev pub copyOf : ℕ → Page → List ℕ → Page
+  copyOf p x xs =
+      record { bytes = xs; kind = x .kind; member = x .member; stripe = x .stripe; copied = p; tail = blankTail l }
 
   -- on chip c, with its pages x and the records r
   module _ (c : ℕ) (x : ℕ → Page) (r : ℕ → Record) where

@@ -4,7 +4,7 @@ use mathlib.Core.Bool.{cond, not}
 use mathlib.Core.List.{List, [], _∷_}
 use Rattle.layout.specs.Layout.{Layout, none}
 use Rattle.layout.specs.Rotation.{parityChip}
-use Rattle.layout.specs.Page.{Page, parityKind}
+use Rattle.layout.specs.Page.{Page, parityKind, blankTail}
 use Rattle.layout.specs.Record.{Record, recordAt, bit, noSlot}
 use Rattle.layout.specs.Images.{Images, slotAt}
 use Rattle.steps.specs.Store.{program, stripe}
@@ -26,7 +26,8 @@ module _ (l : Layout) where
 
   -- "kind (.. 80 parity), member (0 for parity), stripe, copied-from page (.. 65,535 if no copy)"
   abbrev pub parityPage : ℕ → List ℕ → Page
-  parityPage j xs = record { bytes = xs; kind = parityKind; member = 0; stripe = j; copied = none l }
+  parityPage j xs =
+      record { bytes = xs; kind = parityKind; member = 0; stripe = j; copied = none l; tail = blankTail l }
 
   -- "store record j with the new parity page, no olds, no bitmap, no slot"
   unfoldable pub committed : ℕ → Record → Record

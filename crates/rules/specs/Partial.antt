@@ -8,7 +8,7 @@ use Rattle.ranges.specs.Look.{someBelow, firstBelow, whenFound}
 use Rattle.ranges.specs.Update.{at}
 use Rattle.layout.specs.Layout.{Layout, none}
 use Rattle.layout.specs.Rotation.{memberChip}
-use Rattle.layout.specs.Page.{Page, dataKind}
+use Rattle.layout.specs.Page.{Page, dataKind, blankTail}
 use Rattle.layout.specs.Record.{Record, recordAt, bit, hasSlot, slotOf}
 use Rattle.layout.specs.Images.{Images, slotAt}
 use Rattle.steps.specs.Store.{program, slot, stripe}
@@ -22,7 +22,8 @@ module _ (l : Layout) where
 
   -- "kind (.. 68 data ..), member, stripe, copied-from page (.. 65,535 if no copy)"
   abbrev pub dataPage : ℕ → ℕ → List ℕ → Page
-  dataPage j m xs = record { bytes = xs; kind = dataKind; member = m; stripe = j; copied = none l }
+  dataPage j m xs =
+      record { bytes = xs; kind = dataKind; member = m; stripe = j; copied = none l; tail = blankTail l }
 
   -- slot i is free: no record names it
   abbrev pub freeSlot : (ℕ → Record) → ℕ → Bool

@@ -1,6 +1,6 @@
 //! Where a chip has room: the place of the next page, the block to collect, the block to copy to.
 
-use codec::scan::is_clean;
+use codec::is_clean;
 use layout::Geometry;
 use ranges::Found;
 use spares::ChipScan;

@@ -96,7 +96,17 @@ pub fn scan_chip(chips: &[u8], records: &[u8], g: Geometry, c: usize) -> ChipSca
     let mut scan = no_block();
     let mut b = 0;
     while b < blocks {
-        scan = with_block(chips, records, g, c, b, scan, &mut tags, &mut stripes, &mut fields);
+        scan = with_block(
+            chips,
+            records,
+            g,
+            c,
+            b,
+            scan,
+            &mut tags,
+            &mut stripes,
+            &mut fields,
+        );
         b += 1;
     }
     scan
@@ -120,7 +130,17 @@ fn scan_all(chips: &[u8], records: &[u8], g: Geometry, lost: usize) -> [ChipScan
         let mut c = 0;
         while c <= n {
             if c != lost {
-                let scan = with_block(chips, records, g, c, b, scans[c], &mut tags, &mut stripes, &mut fields);
+                let scan = with_block(
+                    chips,
+                    records,
+                    g,
+                    c,
+                    b,
+                    scans[c],
+                    &mut tags,
+                    &mut stripes,
+                    &mut fields,
+                );
                 scans[c] = scan;
             }
             c += 1;

@@ -47,7 +47,7 @@ take-append n xs ys = by-order n (length xs)
     (λ h. rw (take-all n xs h) (ap (λ (i : ℕ). take i (xs ++ ys)) (sym (add-sub-of-le h)) ∙ take-append-add xs ys (n - length xs)))
 
 -- counts of two lists end to end
-count-append : (xs ys : List Step) (n : Counts) → countedAll (xs ++ ys) n ≡ countedAll ys (countedAll xs n)
+pub count-append : (xs ys : List Step) (n : Counts) → countedAll (xs ++ ys) n ≡ countedAll ys (countedAll xs n)
 unfolding countedAll
 count-append [] ys n = refl
 count-append (x ∷ xs) ys n = count-append xs ys (counted x n)

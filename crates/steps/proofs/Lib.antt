@@ -4,3 +4,4 @@ pub mod Totals
 pub mod View
 pub mod Allowances
 pub mod Lengths
+pub mod Alike

@@ -1,9 +1,10 @@
 -- "Each storing call carries a store allowance, what the capacitor still holds": a call under way, as the code counts it down.
-use Prim.Native.Nat.{ℕ, _+_, _-_, _*_, _^_, _<_}
+use Prim.Native.Nat.{ℕ, _+_, _-_, _*_, _^_, _<_, min}
 use mathlib.Core.Path.{_≡_}
 use mathlib.Core.Bool.{true, false, _||_}
 use mathlib.Core.List.{List}
 use lib.ListN.{length}
+use lib.Dec.{ltb}
 use Rattle.layout.specs.Layout.{Layout}
 use Rattle.layout.specs.Images.{Images}
 use Rattle.steps.specs.Steps.{Step, made, isCut, countedAll, applyAll}
@@ -26,6 +27,21 @@ after p xs =
 -- and the images then
 unfoldable pub applied : Layout → Progress → List Step → Images → Images
 applied l p xs s = applyAll l (made (p .left) xs) s
+
+-- after n stores alike that are due, of so many erases each and no reads, as far as the allowance goes
+abbrev pub countingAll : Progress → ℕ → ℕ → Progress
+countingAll p n erases =
+    record {
+      counts =
+          record {
+            reads = p .counts .reads;
+            programs = p .counts .programs;
+            erases = p .counts .erases + min (p .left) n * erases;
+            stores = p .counts .stores + min (p .left) n;
+          };
+      left = p .left - n;
+      cut = p .cut || ltb (p .left) n;
+    }
 
 -- No counter overflows a word of 64 bits: a store takes one of what is left, and counts at most eight reads (parity, six members, and one to
 -- spare). What is cut has nothing left.

@@ -7,38 +7,6 @@ use Rattle.layout.specs.Images.{recordsLength}
 use Rattle.codec.proofs.collection_at.Statement.{statement}
 use Rattle.codec.proofs.collection_at.Tie as tie
 
-mul-a : tie.Need-mul-a
-unfolding recordsLength
-mul-a c = omega arith
-
-byte-requires : tie.Need-byte-requires
-unfolding recordsLength
-byte-requires c κs = omega arith
-
-add-byte : tie.Need-add-byte
-unfolding recordsLength
-add-byte c = omega arith
-
-byte-requires-2 : tie.Need-byte-requires-2
-unfolding recordsLength
-byte-requires-2 c κs = omega arith
-
-add-number-at : tie.Need-add-number-at
-unfolding recordsLength
-add-number-at c = omega arith
-
-number-at-requires : tie.Need-number-at-requires
-unfolding recordsLength
-number-at-requires c κs = omega arith
-
-add-number-at-2 : tie.Need-add-number-at-2
-unfolding recordsLength
-add-number-at-2 c = omega arith
-
-number-at-requires-2 : tie.Need-number-at-requires-2
-unfolding recordsLength
-number-at-requires-2 c κs = omega arith
-
 returns : tie.Need-returns
 unfolding collectionAt collectionOf
 returns c =
@@ -56,15 +24,9 @@ returns c =
     }
 
 pub collection-at-spec : {M : Type 1} → statement M
+unfolding recordsLength
 collection-at-spec =
     tie.close
     (tie.spec
-    mul-a
-    byte-requires
-    add-byte
-    byte-requires-2
-    add-number-at
-    number-at-requires
-    add-number-at-2
-    number-at-requires-2
-    returns)
+    (λ c. omega arith) (λ c κs. omega arith) (λ c. omega arith) (λ c κs. omega arith) (λ c. omega arith)
+    (λ c κs. omega arith) (λ c. omega arith) (λ c κs. omega arith) returns)

@@ -6,12 +6,6 @@ use Rattle.layout.specs.Rotation.{memberChip}
 use Rattle.codec.proofs.member_chip.Statement.{statement}
 use Rattle.codec.proofs.member_chip.Tie as tie
 
-parity-chip-requires : tie.Need-parity-chip-requires
-parity-chip-requires c κs = search needs
-
-add-result : tie.Need-add-result
-add-result c = search needs
-
 returns : tie.Need-returns
 unfolding memberChip
 returns c =
@@ -25,4 +19,4 @@ returns-2 c =
     (rw (← x .ensures .0, le-ltb (c .before .before .args .m) (x .result) (c .if1 .left)), omega arith)
 
 pub member-chip-spec : {M : Type 1} → statement M
-member-chip-spec = tie.close (tie.spec parity-chip-requires add-result returns returns-2)
+member-chip-spec = tie.close (tie.spec (λ c κs. search needs) (λ c. search needs) returns returns-2)

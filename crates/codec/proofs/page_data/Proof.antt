@@ -8,21 +8,6 @@ use Rattle.codec.proofs.Offsets.{page-in}
 use Rattle.codec.proofs.page_data.Statement.{statement}
 use Rattle.codec.proofs.page_data.Tie as tie
 
-page-offset-requires : tie.Need-page-offset-requires
-page-offset-requires c κs = search needs
-
-add-e : tie.Need-add-e
-add-e c = search needs
-
-sub-result : tie.Need-sub-result
-sub-result c = search needs
-
-part-result-start : tie.Need-part-result-start
-part-result-start c = search needs
-
-part-result-end : tie.Need-part-result-end
-part-result-end c = search needs
-
 returns : tie.Need-returns
 unfolding part
 returns c =
@@ -34,4 +19,6 @@ returns c =
 pub page-data-spec : {M : Type 1} → statement M
 page-data-spec =
     tie.close
-    (tie.spec page-offset-requires add-e sub-result part-result-start part-result-end returns)
+    (tie.spec
+    (λ c κs. search needs) (λ c. search needs) (λ c. search needs) (λ c. search needs)
+    (λ c. search needs) returns)

@@ -14,21 +14,6 @@ rotated : (g : Geometry) (j n : ℕ) → g .n ≡ n → (n - j % (n + 1) ≡ par
 unfolding parityChip
 rotated g j n e = (rw e, omega arith)
 
-sub-result : tie.Need-sub-result
-sub-result c = search needs
-
-sub-result-2 : tie.Need-sub-result-2
-sub-result-2 c = search needs
-
-sub-result-3 : tie.Need-sub-result-3
-sub-result-3 c = search needs
-
-sub-result-4 : tie.Need-sub-result-4
-sub-result-4 c = search needs
-
-sub-result-5 : tie.Need-sub-result-5
-sub-result-5 c = search needs
-
 returns : tie.Need-returns
 returns c = rotated (c .before .args .g) (c .before .args .j) 2 (c .match .keys1)
 
@@ -51,13 +36,5 @@ pub parity-chip-spec : {M : Type 1} → statement M
 parity-chip-spec =
     tie.close
     (tie.spec
-    sub-result
-    sub-result-2
-    sub-result-3
-    sub-result-4
-    sub-result-5
-    returns
-    returns-2
-    returns-3
-    returns-4
-    returns-5)
+    (λ c. search needs) (λ c. search needs) (λ c. search needs) (λ c. search needs) (λ c. search needs)
+    returns returns-2 returns-3 returns-4 returns-5)

@@ -9,68 +9,6 @@ use Rattle.codec.proofs.Encodings.{record-in}
 use Rattle.codec.proofs.record_at.Statement.{statement}
 use Rattle.codec.proofs.record_at.Tie as tie
 
-mul-a : tie.Need-mul-a
-unfolding recordsLength
-mul-a c = omega arith
-
-six-at-requires : tie.Need-six-at-requires
-unfolding recordsLength
-six-at-requires c κs = omega arith
-
-add-six-at : tie.Need-add-six-at
-unfolding recordsLength
-add-six-at c = omega arith
-
-six-at-requires-2 : tie.Need-six-at-requires-2
-unfolding recordsLength
-six-at-requires-2 c κs = omega arith
-
-add-number-at : tie.Need-add-number-at
-unfolding recordsLength
-add-number-at c = omega arith
-
-number-at-requires : tie.Need-number-at-requires
-unfolding recordsLength
-number-at-requires c κs = omega arith
-
-add-byte : tie.Need-add-byte
-unfolding recordsLength
-add-byte c = omega arith
-
-byte-requires : tie.Need-byte-requires
-unfolding recordsLength
-byte-requires c κs = omega arith
-
-add-byte-2 : tie.Need-add-byte-2
-unfolding recordsLength
-add-byte-2 c = omega arith
-
-byte-requires-2 : tie.Need-byte-requires-2
-unfolding recordsLength
-byte-requires-2 c κs = omega arith
-
-add-number-at-2 : tie.Need-add-number-at-2
-unfolding recordsLength
-add-number-at-2 c = omega arith
-
-number-at-requires-2 : tie.Need-number-at-requires-2
-unfolding recordsLength
-number-at-requires-2 c κs = omega arith
-
-add-number-at-3 : tie.Need-add-number-at-3
-unfolding recordsLength
-add-number-at-3 c = omega arith
-
-number-at-requires-3 : tie.Need-number-at-requires-3
-unfolding recordsLength
-number-at-requires-3 c κs = omega arith
-
-mul-t18 : tie.Need-mul-t18
-mul-t18 c = omega arith
-
-add-t19 : tie.Need-add-t19
-add-t19 c = omega arith
-
 returns : tie.Need-returns
 returns c =
     let a = c .before .before .before .before .before .before .before .before .args in
@@ -94,23 +32,11 @@ returns c =
     )
 
 pub record-at-spec : {M : Type 1} → statement M
+unfolding recordsLength
 record-at-spec =
     tie.close
     (tie.spec
-    mul-a
-    six-at-requires
-    add-six-at
-    six-at-requires-2
-    add-number-at
-    number-at-requires
-    add-byte
-    byte-requires
-    add-byte-2
-    byte-requires-2
-    add-number-at-2
-    number-at-requires-2
-    add-number-at-3
-    number-at-requires-3
-    mul-t18
-    add-t19
-    returns)
+    (λ c. omega arith) (λ c κs. omega arith) (λ c. omega arith) (λ c κs. omega arith) (λ c. omega arith)
+    (λ c κs. omega arith) (λ c. omega arith) (λ c κs. omega arith) (λ c. omega arith)
+    (λ c κs. omega arith) (λ c. omega arith) (λ c κs. omega arith) (λ c. omega arith)
+    (λ c κs. omega arith) (λ c. omega arith) (λ c. omega arith) returns)

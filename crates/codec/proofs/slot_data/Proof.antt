@@ -21,12 +21,6 @@ mul-a c = omega (arith, fits c)
 add-e : tie.Need-add-e
 add-e c = omega (arith, fits c)
 
-sub-result : tie.Need-sub-result
-sub-result c = search needs
-
-part-result-start : tie.Need-part-result-start
-part-result-start c = search needs
-
 part-result-end : tie.Need-part-result-end
 part-result-end c = omega (arith, fits c)
 
@@ -38,4 +32,6 @@ returns c =
 
 pub slot-data-spec : {M : Type 1} → statement M
 slot-data-spec =
-    tie.close (tie.spec mul-a add-e sub-result part-result-start part-result-end returns)
+    tie.close
+    (tie.spec
+    mul-a add-e (λ c. search needs) (λ c. search needs) part-result-end returns)

@@ -1,36 +1,24 @@
--- The bytes of the collection record become the last record, which is what the store makes of the images.
-use mathlib.Core.Path.{refl}
+-- The record is stored, and the store counted, where the allowance holds it.
+use native.Mathlib.Omega.{arith}
 use borrow.Author.Needs.{needs}
-use Rattle.steps.specs.Store.{collection, apply}
-use Rattle.codec.specs.Views.{collectionFrom}
+use Rattle.layout.specs.Layout.{layoutOf}
+use Rattle.steps.specs.Store.{apply}
+use Rattle.steps.proofs.Allowances.{ran-stop, ran-one}
 use Rattle.device.proofs.store_collection.Statement.{statement}
 use Rattle.device.proofs.store_collection.Tie as tie
 
-collection-bytes-requires : tie.Need-collection-bytes-requires
-collection-bytes-requires c κs = search needs
-
-slice-aggregate-store-bytes : tie.Need-slice-aggregate-store-bytes
-slice-aggregate-store-bytes c = search needs
-
-store-bytes-requires : tie.Need-store-bytes-requires
-store-bytes-requires c κs = search needs
-
-same-length : tie.Need-same-length
-same-length c = search needs
-
 returns : tie.Need-returns
+returns c x y =
+    let start = c .before .before .before .before in
+    rw (c .stop .ensures) (ran-stop (layoutOf (start .args .g)) (start .args .p) _ _ (start .pre .3) (c .before .if1 .taken))
+
+returns-2 : tie.Need-returns-2
 unfolding apply
-returns c cs zs =
-    let a = c .before .before .before .before .before .before .before .args in
-    c .before .before .store-bytes .ensures (collection (collectionFrom (a .co))) cs zs refl refl
-    (rw (c .before .before .before .before .before .collection-bytes .ensures (a .g)))
+returns-2 c x y =
+    let start = c .before .before .before .before .before .before .before .before in
+    rw (c .count .ensures)
+    (ran-one (layoutOf (start .args .g)) (start .args .p) _ _ _ (start .pre .3) (omega arith) (omega arith) (rw (c .before .before .before .put-collection .ensures)))
 
 pub store-collection-spec : {M : Type 1} → statement M
 store-collection-spec =
-    tie.close
-    (tie.spec
-    collection-bytes-requires
-    slice-aggregate-store-bytes
-    store-bytes-requires
-    same-length
-    returns)
+    tie.close (tie.spec (λ c κs. search needs) returns (λ c κs. search needs) (λ c κs. search needs) (λ c. search needs) returns-2)

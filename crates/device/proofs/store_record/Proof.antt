@@ -1,37 +1,24 @@
--- The bytes of the record become record j, which is what the store makes of the images.
-use mathlib.Core.Path.{refl}
+-- The record is stored, and the store counted, where the allowance holds it.
+use native.Mathlib.Omega.{arith}
 use borrow.Author.Needs.{needs}
 use Rattle.layout.specs.Layout.{layoutOf}
-use Rattle.steps.specs.Store.{stripe, apply}
-use Rattle.codec.specs.Views.{recordFrom}
+use Rattle.steps.specs.Store.{apply}
+use Rattle.steps.proofs.Allowances.{ran-stop, ran-one}
 use Rattle.device.proofs.store_record.Statement.{statement}
 use Rattle.device.proofs.store_record.Tie as tie
 
-record-bytes-requires : tie.Need-record-bytes-requires
-record-bytes-requires c κs = search needs
-
-slice-aggregate-store-bytes : tie.Need-slice-aggregate-store-bytes
-slice-aggregate-store-bytes c = search needs
-
-store-bytes-requires : tie.Need-store-bytes-requires
-store-bytes-requires c κs = search needs
-
-same-length : tie.Need-same-length
-same-length c = search needs
-
 returns : tie.Need-returns
+returns c x y =
+    let start = c .before .before .before .before in
+    rw (c .stop .ensures) (ran-stop (layoutOf (start .args .g)) (start .args .p) _ _ (start .pre .3) (c .before .if1 .taken))
+
+returns-2 : tie.Need-returns-2
 unfolding apply
-returns c cs zs =
-    let a = c .before .before .before .before .before .before .before .args in
-    c .before .before .store-bytes .ensures (stripe (a .j) (recordFrom (layoutOf (a .g)) (a .e))) cs zs refl refl
-    (rw (c .before .before .before .before .before .record-bytes .ensures (a .g)))
+returns-2 c x y =
+    let start = c .before .before .before .before .before .before .before .before in
+    rw (c .count .ensures)
+    (ran-one (layoutOf (start .args .g)) (start .args .p) _ _ _ (start .pre .3) (omega arith) (omega arith) (rw (c .before .before .before .put-record .ensures)))
 
 pub store-record-spec : {M : Type 1} → statement M
 store-record-spec =
-    tie.close
-    (tie.spec
-    record-bytes-requires
-    slice-aggregate-store-bytes
-    store-bytes-requires
-    same-length
-    returns)
+    tie.close (tie.spec (λ c κs. search needs) returns (λ c κs. search needs) (λ c κs. search needs) (λ c. search needs) returns-2)

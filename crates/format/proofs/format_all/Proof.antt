@@ -11,18 +11,12 @@ use Rattle.steps.proofs.Allowances.{ran-append}
 use Rattle.format.proofs.format_all.Statement.{statement}
 use Rattle.format.proofs.format_all.Tie as tie
 
-erase-chips-requires : tie.Need-erase-chips-requires
-erase-chips-requires c κs = search needs
-
 empty-records-requires : tie.Need-empty-records-requires
 empty-records-requires c κs = (c .before .before .before .before .before .before .before .pre .1, c .before .before .before .erase-chips .ensures [] [] .sane)
 
 store-collection-requires : tie.Need-store-collection-requires
 store-collection-requires c κs =
     (record { limited = c .before .before .before .before .before .before .before .before .before .before .before .pre .1 .limited; long = c .before .before .before .empty-records .kept .0 ∙ c .before .before .before .before .before .before .before .before .before .before .before .pre .1 .long }, omega arith, omega arith, c .before .before .before .empty-records .ensures [] [] .sane)
-
-same-length : tie.Need-same-length
-same-length c = search needs
 
 same-length-2 : tie.Need-same-length-2
 same-length-2 c = c .before .before .store-collection .kept .0 ∙ c .before .before .before .before .before .before .empty-records .kept .0
@@ -43,9 +37,5 @@ pub format-all-spec : {M : Type 1} → statement M
 format-all-spec =
     tie.close
     (tie.spec
-    erase-chips-requires
-    empty-records-requires
-    store-collection-requires
-    same-length
-    same-length-2
-    returns)
+    (λ c κs. search needs) empty-records-requires store-collection-requires (λ c. search needs)
+    same-length-2 returns)

@@ -6,7 +6,7 @@ use Rattle.layout.specs.Layout.{none}
 use Rattle.layout.specs.Record.{bit}
 use Rattle.rules.specs.Sound.{memberSound}
 use Rattle.codec.specs.Views.{recordFrom, sixOf}
-use Rattle.records.proofs.Sizes.{bounded}
+use Rattle.codec.proofs.Sizes.{bounded}
 use Rattle.records.proofs.member_passes.Statement.{statement}
 use Rattle.records.proofs.member_passes.Tie as tie
 

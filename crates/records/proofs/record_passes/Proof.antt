@@ -10,7 +10,7 @@ use Rattle.ranges.specs.Look.{allBelow}
 use Rattle.layout.specs.Layout.{layoutOf, none}
 use Rattle.rules.specs.Sound.{memberSound, slotSound, recordSound}
 use Rattle.codec.specs.Views.{recordFrom}
-use Rattle.records.proofs.Sizes.{bounded}
+use Rattle.codec.proofs.Sizes.{bounded}
 use Rattle.records.proofs.record_passes.Statement.{statement}
 use Rattle.records.proofs.record_passes.Tie as tie
 

@@ -5,10 +5,10 @@ use mathlib.Core.Bool.{true}
 use mathlib.Core.List.{List, [], _∷_}
 use lib.ListN.{length}
 use Rattle.ranges.specs.Rows.{Rows}
-use Rattle.layout.specs.Layout.{Layout}
+use Rattle.layout.specs.Layout.{Layout, sizes}
 use Rattle.layout.specs.Rotation.{parityChip}
 use Rattle.layout.specs.Images.{Images, lengths}
-use Rattle.layout.proofs.Rows.{chipOf, parity-chips, page-chips, Sized, most-pages, too-many-pages, most-stripes, too-many-stripes}
+use Rattle.layout.proofs.Rows.{chipOf, parity-chips, page-chips, most-pages, too-many-pages, most-stripes, too-many-stripes}
 use Rattle.rules.specs.declared.Refusal.the-variants.{Geometry}
 use Rattle.rules.specs.declared.Check.the-variants.{Passed}
 use Rattle.rules.specs.Costs.{costOf}
@@ -39,10 +39,10 @@ module _ (l : Layout) where
     -- "N = 5, p = 1 to 5: 2, 3, 2, 1, 0"
     pub costs-at-five : N ≡ 5 → Rows (costOf l) ((1, 2) ∷ (2, 3) ∷ (3, 2) ∷ (4, 1) ∷ (5, 0) ∷ [])
     -- "771 × 85 pages accepted; 512 × 128 is refusal 1": page numbers have two bytes
-    pub pages-accepted : Sized l → D ≡ 2 → B ≡ 771 → K ≡ 85 → 1 ≤ S → 1 ≤ M → M ≤ 254 → S + M + 1 ≤ 770 * 85 → Accepted
+    pub pages-accepted : sizes l ≡ true → D ≡ 2 → B ≡ 771 → K ≡ 85 → 1 ≤ S → 1 ≤ M → M ≤ 254 → S + M + 1 ≤ 770 * 85 → Accepted
     pub pages-refused : D ≡ 2 → B ≡ 512 → K ≡ 128 → Refusal1
     -- "K = 4, B = 4, M = 2: S = 9 accepted, 10 is refusal 1."
-    pub stripes-accepted : Sized l → D ≡ 2 → K ≡ 4 → B ≡ 4 → M ≡ 2 → S ≡ 9 → Accepted
+    pub stripes-accepted : sizes l ≡ true → D ≡ 2 → K ≡ 4 → B ≡ 4 → M ≡ 2 → S ≡ 9 → Accepted
     pub stripes-refused : K ≡ 4 → B ≡ 4 → M ≡ 2 → S ≡ 10 → Refusal1
     -- "a first write takes 3 stores. Allowance 2 is cut and reads zeros; 3 is done."
     pub first : 1 ≤ D → D ≤ 4 → (s : Images) (allowance : ℕ) → verdict (formatCall l s allowance .answer) ≡ done
@@ -62,9 +62,9 @@ module _ (l : Layout) where
     pages = page-chips l;
     costs-at-four = four-costs;
     costs-at-five = five-costs;
-    pages-accepted = λ w d b k s m₁ m₂ room t. buffers-pass l t (most-pages l w d b k s m₁ m₂ room);
+    pages-accepted = λ e d b k s m₁ m₂ room t. buffers-pass l t (most-pages l e d b k s m₁ m₂ room);
     pages-refused = λ d b k. (outside-limits l (too-many-pages l d b k), refl);
-    stripes-accepted = λ w d k b m s t. buffers-pass l t (most-stripes l w d k b m s);
+    stripes-accepted = λ e d k b m s t. buffers-pass l t (most-stripes l e d k b m s);
     stripes-refused = λ k b m s. (outside-limits l (too-many-stripes l k b m s), refl);
     first = first-write l;
   }

@@ -8,7 +8,7 @@ use Rattle.bytes.specs.Xor.{_⊕_, xorBelow}
 use Rattle.layout.specs.Collection.{collectionOf, bytesOfCollection, collectionAt}
 use Rattle.layout.specs.Images.{chipsLength, recordsLength, slotsLength, lengths, slotAt}
 use Rattle.layout.specs.Layout.{none, limits}
-use Rattle.layout.specs.Page.{pageOf, bytesOfPage, pageAt}
+use Rattle.layout.specs.Page.{blankTail, pageOf, bytesOfPage, pageAt}
 use Rattle.layout.specs.Record.{bit, row, sixFrom, recordOf, bytesOfRecord, emptyRecord, recordAt}
 use Rattle.layout.specs.Rotation.{parityChip, memberChip, memberOn}
 use Rattle.steps.specs.Steps.{applyAll, andThen, counted, countedAll, stepsBelow, thenBelow}
@@ -33,5 +33,5 @@ use Rattle.rules.specs.Partial.{lowestFreeSlot, newPartial, written, slo
 use Rattle.rules.specs.Write.{commitOwed, owedSteps, writeMember, writeSteps}
 
 unfoldable pub computes : ℕ
-unfolding allBelow someBelow countBelow whenFound firstBelow leastBelow sumBelow number digits part put unit unitPut at _⊕_ xorBelow collectionOf bytesOfCollection collectionAt chipsLength recordsLength slotsLength lengths slotAt none limits pageOf bytesOfPage pageAt bit row sixFrom recordOf bytesOfRecord emptyRecord recordAt parityChip memberChip memberOn applyAll andThen counted countedAll stepsBelow thenBelow programmed erased recorded apply cleanBlock fullBlock orderedBlock lowestCleanBlock run formatCall openCall writeCall commitCall collectCall readCall collectable namedCount victimOf copyFrom copySteps copyFeed collectSteps setBits costOf cheapest newParity committed commitAt commitSteps formatSteps bytesAt readsAt gathered gatheredReads mainNumber sideNumber roleOf kindOn memberByte names named repointed due moveFrom moveSteps finishOf finishSteps openSteps openBlock lowestCleanPage placeOf roomSteps atPlace placed underParity othersUnderParity othersInside throughPartial throughParity parityAnew fetchRole fetchIn membersFeed fetchMember fetch buffersRows imagesRows readRows settledRows writeRows commitRows collectRows memberSound recordSound collectionSound recordsSound stampedStripe phase1Sound twin phase2Sound chipSound sparesSound commitOwed owedSteps lowestFreeSlot newPartial written slotSteps writeAt writeMember writeSteps
+unfolding allBelow someBelow countBelow whenFound firstBelow leastBelow sumBelow number digits part put unit unitPut at _⊕_ xorBelow collectionOf bytesOfCollection collectionAt chipsLength recordsLength slotsLength lengths slotAt none limits blankTail pageOf bytesOfPage pageAt bit row sixFrom recordOf bytesOfRecord emptyRecord recordAt parityChip memberChip memberOn applyAll andThen counted countedAll stepsBelow thenBelow programmed erased recorded apply cleanBlock fullBlock orderedBlock lowestCleanBlock run formatCall openCall writeCall commitCall collectCall readCall collectable namedCount victimOf copyFrom copySteps copyFeed collectSteps setBits costOf cheapest newParity committed commitAt commitSteps formatSteps bytesAt readsAt gathered gatheredReads mainNumber sideNumber roleOf kindOn memberByte names named repointed due moveFrom moveSteps finishOf finishSteps openSteps openBlock lowestCleanPage placeOf roomSteps atPlace placed underParity othersUnderParity othersInside throughPartial throughParity parityAnew fetchRole fetchIn membersFeed fetchMember fetch buffersRows imagesRows readRows settledRows writeRows commitRows collectRows memberSound recordSound collectionSound recordsSound stampedStripe phase1Sound twin phase2Sound chipSound sparesSound commitOwed owedSteps lowestFreeSlot newPartial written slotSteps writeAt writeMember writeSteps
 computes = 0

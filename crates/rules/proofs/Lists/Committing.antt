@@ -12,7 +12,7 @@ use Rattle.layout.specs.Page.{Page, pageAt}
 use Rattle.layout.specs.Record.{Record, hasSlot, slotted, recordAt}
 use Rattle.layout.specs.Collection.{Collection, collectionAt}
 use Rattle.layout.specs.Images.{Images, slotAt}
-use Rattle.layout.proofs.Codec.{PageFits}
+use Rattle.layout.proofs.Codec.{PageFits, length-blank}
 use Rattle.layout.proofs.Rotations.{parity-chip-fits}
 use Rattle.layout.proofs.Records.{same-slotted}
 use Rattle.layout.proofs.Pages.{none-fits}
@@ -76,6 +76,7 @@ module _ (l : Layout) (u : Usable l) where
         whole = new-parity-length l (u .within) t j g fits slot;
         stripe = omega (arith, u .within .stripes-high);
         copied = none-fits l;
+        tail = length-blank l;
       }
 
       abbrev t₁ : Images

@@ -17,7 +17,7 @@ use Rattle.layout.specs.Page.{Page, cleanKind, clean, pageAt}
 use Rattle.layout.specs.Record.{Record, recordAt}
 use Rattle.layout.specs.Collection.{Collection, collectionAt}
 use Rattle.layout.specs.Images.{Images, slotAt}
-use Rattle.layout.proofs.Codec.{PageFits}
+use Rattle.layout.proofs.Codec.{PageFits, length-blank}
 use Rattle.layout.proofs.Pages.{page-in-fits, same-place, in-own-block, in-other-block, page-number}
 use Rattle.layout.proofs.Pages.{none-fits}
 use Rattle.steps.specs.Store.{program, collection, apply}
@@ -62,7 +62,7 @@ module _ (l : Layout) where
     pub outside : (p : ℕ) → inBlock l d p ≡ false → pageAt l (t .chips) c p ≡ pageAt l (s .chips) c p
     pub filled : (k : ℕ) → k < countBelow i (namedIn l (recordAt l (s .records)) c v)
         → (n : ℕ) × (n < i) × (namedIn l (recordAt l (s .records)) c v n ≡ true) × (countBelow n (namedIn l (recordAt l (s .records)) c v) ≡ k)
-        × (pageAt l (t .chips) c (pageIn l d k) ≡ copyOf (pageIn l v n) (pageAt l (s .chips) c (pageIn l v n)) (pageAt l (s .chips) c (pageIn l v n) .bytes))
+        × (pageAt l (t .chips) c (pageIn l d k) ≡ copyOf l (pageIn l v n) (pageAt l (s .chips) c (pageIn l v n)) (pageAt l (s .chips) c (pageIn l v n) .bytes))
     pub ahead : (k : ℕ) → countBelow i (namedIn l (recordAt l (s .records)) c v) ≤ k → k < K → cleanIn l (pageAt l (t .chips) c) d k ≡ true
 
   -- the copies are made: phase 2, and the destination's last page is clean
@@ -143,7 +143,7 @@ module _ (l : Layout) (u : Usable l) where
       original-used : x p .kind ≢ cleanKind
       original-used e = both (clean (x p)) (eq-eqb (x p .kind) cleanKind e) (named-used l r x c (collectionAt l (s .records)) here p is-page n)
 
-      copy-fits : PageFits l (copyOf p (x p) (x p .bytes))
+      copy-fits : PageFits l (copyOf l p (x p) (x p .bytes))
       copy-fits =
           let j = named-by l r c p n in
           let t = name-stamped l r x c (collectionAt l (s .records)) here p (j .0) (j .1) is-page (j .2) in
@@ -151,6 +151,7 @@ module _ (l : Layout) (u : Usable l) where
             whole = pages-whole l s (f .chips) c p (o .chip) (page-in-fits l v i (o .victim) place);
             stripe = omega (arith, t .stripe, j .1, u .within .stripes-high);
             copied = omega (arith, page-in-fits l v i (o .victim) place, u .within .pages-numbered, none-fits l);
+            tail = length-blank l;
           }
 
     -- phase 1 is stored
@@ -184,7 +185,7 @@ module _ (l : Layout) (u : Usable l) where
       q = pageIn l d k
 
       abbrev copy : Page
-      copy = copyOf (pageIn l v i) (x (pageIn l v i)) (x (pageIn l v i) .bytes)
+      copy = copyOf l (pageIn l v i) (x (pageIn l v i)) (x (pageIn l v i) .bytes)
 
       abbrev y : ℕ → Page
       y = pageAt l (t .chips) c
@@ -277,7 +278,7 @@ module _ (l : Layout) (u : Usable l) where
         ranked : rank < countBelow K isNamed
         ranked = omega (arith, count-pass i isNamed n, count-mono (suc i) K isNamed place)
 
-        is-copy : z (pageIn l d rank) ≡ copyOf (pageIn l v i) (x (pageIn l v i)) (x (pageIn l v i) .bytes)
+        is-copy : z (pageIn l d rank) ≡ copyOf l (pageIn l v i) (x (pageIn l v i)) (x (pageIn l v i) .bytes)
         is-copy =
             let (a, less, is, cnt, e) = m .filled rank ranked in
             let same : a ≡ i = count-same isNamed a i is n cnt in

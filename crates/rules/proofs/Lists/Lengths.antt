@@ -81,7 +81,7 @@ module _ (l : Layout) where
       let x = pageAt l (s .chips) c in
       let r = recordAt l (s .records) in
       at-most-one (namedIn l r c v i)
-      (fed (copyFeed l c s (pageIn l v i)) (λ xs. program c (pageIn l d (countBelow i (namedIn l r c v))) (copyOf (pageIn l v i) (x (pageIn l v i)) xs)))
+      (fed (copyFeed l c s (pageIn l v i)) (λ xs. program c (pageIn l d (countBelow i (namedIn l r c v))) (copyOf l (pageIn l v i) (x (pageIn l v i)) xs)))
 
   collect-of : (c : ℕ) (s : Images) (victim destination : Found)
       → length (whenFound victim (λ v. whenFound destination (λ d. andThen l (copySteps l c (pageAt l (s .chips) c) (copyFeed l c s) (recordAt l (s .records)) v d) (finishSteps l) s) []) []) ≤ 2 * K + 4

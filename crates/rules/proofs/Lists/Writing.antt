@@ -19,7 +19,7 @@ use Rattle.layout.specs.Page.{pageAt}
 use Rattle.layout.specs.Record.{Record, hasSlot, slotted, recordAt}
 use Rattle.layout.specs.Collection.{collectionAt}
 use Rattle.layout.specs.Images.{Images, slotAt}
-use Rattle.layout.proofs.Codec.{PageFits}
+use Rattle.layout.proofs.Codec.{PageFits, length-blank}
 use Rattle.layout.proofs.Rotations.{stripe-fits, member-fits, page-chip-fits}
 use Rattle.layout.proofs.Records.{same-slotted}
 use Rattle.layout.proofs.Pages.{none-fits}
@@ -158,7 +158,7 @@ module _ (l : Layout) (u : Usable l) (page : ℕ) (inside : page < l .N * l .S) 
   -- at a place p of images t: the page, then the slot and the record
   module _ (t : Images) (g : Sound l t) (rest : collectionAt l (t .records) .phase ≡ 0) (left : SlotLeft l j t) (p : ℕ) (o : PlaceAt l (pageAt l (t .chips) c) p) where
     page-fits : PageFits l (dataPage l j m xs)
-    page-fits = record { whole = whole; stripe = omega (arith, stripe-inside, u .within .stripes-high); copied = none-fits l }
+    page-fits = record { whole = whole; stripe = omega (arith, stripe-inside, u .within .stripes-high); copied = none-fits l; tail = length-blank l }
 
     abbrev t₁ : Images
     t₁ = apply l (program c p (dataPage l j m xs)) t

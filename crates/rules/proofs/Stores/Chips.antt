@@ -16,6 +16,7 @@ use Rattle.layout.specs.Layout.{Layout, none, pageIn, inBlock, recordBytes}
 use Rattle.layout.specs.Page.{Page, cleanKind, clean}
 use Rattle.layout.specs.Record.{Record, noSlot, slotted, restBytes}
 use Rattle.layout.specs.Collection.{Collection}
+use Rattle.layout.proofs.Limits.{blocks-most}
 use Rattle.layout.proofs.Codec.{RecordFits, CollectionFits}
 use Rattle.layout.proofs.Records.{SixMembers}
 use Rattle.layout.proofs.Pages.{same-place, in-own-block, in-other-block, place-in}
@@ -64,7 +65,7 @@ module _ (l : Layout) where
     block-fits : (phase b : ℕ) → (phase ≡ 0 → b ≡ 0) → (phase ≢ 0 → b < B) → b < 256 ^ 2
     block-fits phase b rest busy = elim (ℕ-discrete phase 0) [
       | yes e ↦ rw (rest e) (pow-positive 2)
-      | no d ↦ omega (arith, busy d, u .within .blocks-high)
+      | no d ↦ omega (arith, busy d, blocks-most l (u .within))
     ]
 
     pub collection-fits : (co : Collection) → CollectionSound l co → CollectionFits l co

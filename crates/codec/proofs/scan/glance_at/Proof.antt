@@ -14,7 +14,8 @@ use Rattle.layout.specs.Layout.{layoutOf}
 use Rattle.layout.specs.Record.{recordAt}
 use Rattle.layout.specs.Images.{recordsLength}
 use Rattle.codec.specs.Scan.{Glanced}
-use Rattle.codec.proofs.Glances.{bounded, next, lowIn, givenIn, plainTests, full, glanced}
+use Rattle.codec.proofs.Sizes.{bounded}
+use Rattle.codec.proofs.Glances.{next, lowIn, givenIn, plainTests, full, glanced}
 use Rattle.codec.proofs.scan.glance_at.Statement.{statement}
 use Rattle.codec.proofs.scan.glance_at.Tie as tie
 

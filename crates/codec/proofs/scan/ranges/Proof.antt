@@ -3,7 +3,7 @@ use Prim.Native.Nat.{_≤_, _<_, _-_}
 use native.Mathlib.Omega.{arith}
 use mathlib.Core.Path.{_≡_}
 use Rattle.codec.specs.Scan.{Ranges}
-use Rattle.codec.proofs.Glances.{bounded}
+use Rattle.codec.proofs.Sizes.{bounded}
 use Rattle.codec.proofs.Tops.{tops-none, tops-more}
 use Rattle.codec.proofs.scan.ranges.Statement.{statement}
 use Rattle.codec.proofs.scan.ranges.Tie as tie

@@ -1,0 +1,32 @@
+-- After i turns the first i bytes are those of the number.
+use Prim.Native.Nat.{_-_}
+use native.Mathlib.Omega.{arith}
+use borrow.Author.Needs.{needs}
+use Rattle.bytes.proofs.Lists.{stored-all}
+use Rattle.codec.proofs.Fills.{Digits, digits-none, digits-more}
+use Rattle.codec.proofs.put.fill_number.Statement.{statement}
+use Rattle.codec.proofs.put.fill_number.Tie as tie
+
+abbrev Inv-loop : tie.InvT-loop
+Inv-loop dst₀ x rest₀ i₀ i-end dst rest i = Digits x dst₀ i rest dst
+
+abbrev μ-loop : tie.MeasureT-loop
+μ-loop dst₀ x rest₀ i₀ i-end dst rest i = i-end - i
+
+loop-holds : tie.Need-loop-holds Inv-loop μ-loop
+loop-holds c = digits-none (c .args .x) (c .args .dst .now)
+
+loop-again : tie.Need-loop-again Inv-loop μ-loop
+loop-again c = digits-more (c .before .loop .inv) (omega arith)
+
+same-length : tie.Need-same-length Inv-loop μ-loop
+same-length c = c .before .loop .inv .stored .same
+
+returns : tie.Need-returns Inv-loop μ-loop
+returns c = stored-all (c .before .loop .inv .stored) (omega arith)
+
+pub fill-number-spec : {M : Type 1} → statement M
+fill-number-spec =
+    tie.close
+    (tie.spec Inv-loop μ-loop loop-holds (λ c. search needs) (λ c. search needs) (λ c. search needs) (λ c. search needs)
+    loop-again same-length returns)

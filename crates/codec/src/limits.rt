@@ -1,0 +1,48 @@
+//! Rows 1 and 2 of the table: the limits of a geometry, and the lengths of the images.
+
+use super::RECORD_BYTES;
+use super::SPARE_BYTES;
+use layout::Geometry;
+ghost use mathlib.Core.Path.{_≡_};
+ghost use mathlib.Core.Bool.{true};
+ghost use Rattle.layout.specs.Layout.{layoutOf, limits};
+ghost use Rattle.layout.specs.Images.{lengths};
+
+// Whether the geometry is within the limits. No product is formed before its factors are known to be small.
+pub fn geometry_passes(g: Geometry) -> bool
+    ensures { λ r. ⌜ r ≡ limits (layoutOf g) ⌝ }
+{
+    let sizes = (2 <= g.n)
+        & (g.n <= 6)
+        & (16 <= g.w)
+        & (g.w <= 4096)
+        & (g.w % 16 == 0)
+        & (2 <= g.k)
+        & (g.k <= 128)
+        & (2 <= g.b)
+        & (g.b <= 1024);
+    if !sizes {
+        return false;
+    }
+    let counts = (g.b * g.k <= 65535) & (1 <= g.s) & (g.s <= 65535) & (1 <= g.m) & (g.m <= 254);
+    if !counts {
+        return false;
+    }
+    g.s + g.m + 1 <= (g.b - 1) * g.k
+}
+
+// Whether each image has its length.
+pub fn lengths_pass(g: Geometry, chips: &[u8], records: &[u8], slots: &[u8]) -> bool
+    requires { ⌜ limits (layoutOf g) ≡ true ⌝ }
+    ensures { λ r. ⌜ r ≡ lengths (layoutOf g) (record { chips = now (chips .entry); records = now (records .entry); slots = now (slots .entry) }) ⌝ }
+{
+    let n = g.n as usize;
+    let w = g.w as usize;
+    let k = g.k as usize;
+    let b = g.b as usize;
+    let s = g.s as usize;
+    let m = g.m as usize;
+    (chips.len() == (n + 1) * (b * k) * (w + SPARE_BYTES))
+        & (records.len() == (s + 1) * RECORD_BYTES)
+        & (slots.len() == (m + 1) * w)
+}
