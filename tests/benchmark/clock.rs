@@ -1,4 +1,4 @@
-//! Times of three things, taken turn by turn.
+//! Times of four things, taken turn by turn.
 
 use std::hint::black_box;
 use std::time::Instant;
@@ -28,12 +28,16 @@ const MOST_TIMES: usize = 4;
 const NEAR: f64 = 1.05;
 
 pub trait Race {
-    fn run(&mut self, turn: usize);
+    /// A run is so many calls on each of so many copies of the images.
+    fn run(&mut self, turn: usize, repeats: usize);
     /// Leaves what the run of that turn changed as it was.
     fn take_back(&mut self, turn: usize);
+    fn copies(&self) -> usize;
+    /// With warm caches; with swept ones a second call would find another state of the caches.
+    fn repeats(&self) -> usize;
 }
 
-pub const TURNS: usize = 3;
+pub const TURNS: usize = 4;
 
 /// The best times of two turns of one thing, in microseconds.
 #[derive(Clone, Copy)]
@@ -97,7 +101,7 @@ impl Clock {
         }
         for turn in (0..TURNS).map(|i| (taken.rounds + i) % TURNS) {
             taken.best[turn].add(match caches {
-                Caches::Swept => run(race, turn),
+                Caches::Swept => run(race, turn, 1),
                 Caches::Warm => run_warm(race, turn),
             });
         }
@@ -114,7 +118,7 @@ fn run_warm(race: &mut impl Race, turn: usize) -> f64 {
     let mut best = f64::MAX;
     let mut idle = 0;
     for _ in 0..MOST_RUNS {
-        let time = run(race, turn);
+        let time = run(race, turn, race.repeats());
         idle = if time < best * FASTER { 0 } else { idle + 1 };
         best = best.min(time);
         if idle == IDLE_RUNS {
@@ -124,10 +128,11 @@ fn run_warm(race: &mut impl Race, turn: usize) -> f64 {
     best
 }
 
-fn run(race: &mut impl Race, turn: usize) -> f64 {
+/// The time of one call.
+fn run(race: &mut impl Race, turn: usize, repeats: usize) -> f64 {
     let start = Instant::now();
-    race.run(turn);
+    race.run(turn, repeats);
     let time = start.elapsed().as_secs_f64() * 1e6;
     race.take_back(turn);
-    time
+    time / (race.copies() * repeats) as f64
 }

@@ -1,5 +1,6 @@
 //! The floor: the least that any program must do that answers a call, written plainly.
 
+use crate::patch::Patch;
 use crate::placed;
 use crate::reference::*;
 use std::hint::black_box;
@@ -16,18 +17,35 @@ pub enum Scan {
 
 /// Images of its own, so that no call finds in the caches what the floor has brought there.
 pub struct Floor {
+    copies: Vec<Copy>,
+}
+
+struct Copy {
     shape: Shape,
-    pub images: Images,
+    images: Images,
 }
 
 impl Floor {
-    pub fn new(shape: Shape, images: &Images) -> Floor {
-        Floor { shape, images: placed::owned(images) }
+    pub fn new(shape: Shape, images: &Images, copies: usize) -> Floor {
+        let copy = |_| Copy { shape, images: placed::owned(images) };
+        Floor { copies: (0..copies).map(copy).collect() }
     }
 
+    pub fn run(&mut self, scan: Scan, counts: Status, repeats: usize) {
+        for copy in &mut self.copies {
+            (0..repeats).for_each(|_| copy.run(scan, counts));
+        }
+    }
+
+    pub fn put(&mut self, patch: &Patch) {
+        self.copies.iter_mut().for_each(|copy| patch.put_owned(&mut copy.images));
+    }
+}
+
+impl Copy {
     /// The scan; then by the counts that the call answers as many pages copied as it reads or as it
     /// programs, whichever is more, a block filled for each erase, and a record copied for each other store.
-    pub fn run(&mut self, scan: Scan, counts: Status) {
+    fn run(&mut self, scan: Scan, counts: Status) {
         black_box(self.scan(scan));
         self.copy_pages(counts.reads.max(counts.programs) as usize);
         self.fill_blocks(counts.erases as usize);

@@ -14,7 +14,7 @@ pub enum Order {
 /// The members that a stripe with a slot has in its partial parity.
 const IN_PARTIAL: [usize; 2] = [0, 2];
 
-/// One stripe in so many has nothing written, but for those with a slot.
+/// One stripe in so many has nothing written, but for those with a slot; in a store of few stripes the last.
 const EMPTY_ONE_IN: usize = 16;
 
 #[derive(Clone, Copy)]
@@ -42,10 +42,11 @@ pub fn build(random: &mut Random, shape: Shape, order: Order) -> Images {
 
 fn kinds(random: &mut Random, shape: Shape, order: Order) -> Vec<Kind> {
     let apart = shape.s / (shape.m + 1);
+    let empty_one_in = EMPTY_ONE_IN.min(shape.s);
     let kind = |stripe: usize| {
         if stripe % apart == 0 && stripe / apart < shape.m {
             Kind::Slotted((stripe / apart) as u8)
-        } else if stripe % EMPTY_ONE_IN == EMPTY_ONE_IN - 1 {
+        } else if stripe % empty_one_in == empty_one_in - 1 {
             Kind::Empty
         } else {
             Kind::Written

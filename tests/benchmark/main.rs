@@ -1,11 +1,20 @@
-//! How long each call takes: by the library, by the second implementation, and beside the floor, which
-//! is a plain scan that touches each record and each spare once, and the pages moved. At 5 chips of three
-//! sizes, the largest as large as the limits allow for blocks of 128 pages.
+//! How long each call takes: by the library, by the second implementation, by one tuned by hand, and beside
+//! the floor, which is a plain scan that touches each record and each spare once, and the pages moved.
 //!
-//!     benchmark [ROUNDS [W]] [sequence|shuffled] [swept|warm] [--markdown]
+//!     benchmark [ROUNDS [W]] [sequence|shuffled] [swept|warm] [TABLE..] [--markdown]
 //!
+//! where TABLE is sizes, small, K2, phases or refused.
 //! docs/BENCHMARKS.md tells what the rows are and how the times are taken.
 
+#[path = "../compare/breakers.rs"]
+#[allow(dead_code)]
+mod breakers;
+#[path = "../compare/damage.rs"]
+#[allow(dead_code)]
+mod damage;
+#[path = "../compare/generator.rs"]
+#[allow(dead_code)]
+mod generator;
 #[path = "../library.rs"]
 #[allow(dead_code)]
 mod library;
@@ -16,34 +25,34 @@ mod random;
 #[allow(dead_code)]
 mod reference;
 
+mod agree;
 mod bench;
 mod clock;
 mod floor;
 mod grid;
 mod images;
-mod pair;
+mod owned;
 mod patch;
 mod placed;
+mod plans;
 mod report;
 mod rows;
+mod setup;
+mod table;
+mod trio;
+mod tuned;
 
 use bench::{measure, Bench};
 use clock::{Caches, Clock};
 use images::Order;
+use plans::{Plan, PLANS};
 use random::Random;
-use reference::Geometry;
-use report::{grouped, Report, Setting, Table, SIZES};
+use report::Report;
 use std::process::exit;
+use table::{Setting, Table};
 
-const N: u64 = 4;
-const K: u64 = 128;
-const M: u64 = 254;
-const BLOCKS: [u64; SIZES] = [32, 128, 510];
-
-/// S is as large as the limits allow: S + M + 1 = (B − 1) × K.
-fn geometry(w: u64, b: u64) -> Geometry {
-    Geometry { n: N, w, k: K, b, s: (b - 1) * K - M - 1, m: M }
-}
+const USAGE: &str = "usage: benchmark [ROUNDS [W]] [sequence|shuffled] [swept|warm] [TABLE..] [--markdown]
+TABLE: sizes, small, K2, phases, refused";
 
 /// What is asked for on the command line.
 struct Request {
@@ -51,6 +60,7 @@ struct Request {
     widths: Vec<u64>,
     orders: Vec<Order>,
     caches: Vec<Caches>,
+    plans: Vec<&'static Plan>,
     markdown: bool,
 }
 
@@ -62,6 +72,7 @@ impl Request {
             widths: vec![16, 512],
             orders: vec![Order::Sequence, Order::Shuffled],
             caches: vec![Caches::Swept, Caches::Warm],
+            plans: Vec::new(),
             markdown: false,
         };
         let mut numbers = Vec::new();
@@ -72,37 +83,60 @@ impl Request {
                 "swept" => request.caches = vec![Caches::Swept],
                 "warm" => request.caches = vec![Caches::Warm],
                 "--markdown" => request.markdown = true,
-                number => numbers.push(number.parse::<u64>().ok()?),
+                word => match PLANS.iter().find(|plan| plan.word == word) {
+                    Some(plan) => request.plans.push(plan),
+                    None => numbers.push(word.parse::<u64>().ok()?),
+                },
             }
         }
+        if request.plans.is_empty() {
+            request.plans = PLANS.iter().collect();
+        }
+        request.take_numbers(&numbers).then_some(request)
+    }
+
+    /// False if they are too many or not within the limits.
+    fn take_numbers(&mut self, numbers: &[u64]) -> bool {
         if let Some(&rounds) = numbers.first() {
-            request.rounds = rounds as usize;
+            self.rounds = rounds as usize;
         }
         if let Some(&w) = numbers.get(1) {
-            request.widths = vec![w];
+            self.widths = vec![w];
         }
-        let fits = request.widths.iter().all(|&w| geometry(w, BLOCKS[0]).shape().is_some());
-        (fits && request.rounds > 0 && numbers.len() <= 2).then_some(request)
+        let fits = |w: u64| (PLANS[0].stores)(w)[0].shape().is_some();
+        self.widths.iter().all(|&w| fits(w)) && self.rounds > 0 && numbers.len() <= 2
+    }
+
+    /// Page sizes and orders of a plan: all that are asked for, or the smallest page and the last order.
+    fn settings(&self, plan: &Plan) -> Vec<(u64, Order)> {
+        if !plan.all_settings {
+            return vec![(self.widths[0], self.orders[self.orders.len() - 1])];
+        }
+        let each = |&w: &u64| self.orders.iter().map(move |&order| (w, order));
+        self.widths.iter().flat_map(each).collect()
     }
 }
 
 fn main() {
     let Some(request) = Request::parse(std::env::args().skip(1)) else {
-        println!("usage: benchmark [ROUNDS [W]] [sequence|shuffled] [swept|warm] [--markdown]");
+        println!("{USAGE}");
         exit(2);
     };
-    let report = Report { markdown: request.markdown, pages: BLOCKS.map(|b| b * K) };
-    let stripes = BLOCKS.map(|b| grouped(geometry(request.widths[0], b).s)).join(", ");
-    println!("N = {N}, K = {K}, M = {M}; S = {stripes}. Best of {} rounds or more.", request.rounds);
+    agree::check();
+    let report = Report { markdown: request.markdown };
+    println!("Best of {} rounds or more.", request.rounds);
+    request.plans.iter().for_each(|plan| report.stores(plan, &(plan.stores)(request.widths[0])));
     let clock = Clock::new(request.rounds, request.caches.contains(&Caches::Swept));
     let mut random = Random::new(1);
     let mut tables = Vec::new();
-    for &w in &request.widths {
-        for &order in &request.orders {
-            let mut benches = BLOCKS.map(|b| Bench::new(&mut random, geometry(w, b), order));
+    for &plan in &request.plans {
+        for (w, order) in request.settings(plan) {
+            let stores = (plan.stores)(w);
+            let bench = |&store| Bench::new(&mut random, plan, store, order);
+            let mut benches: Vec<Bench> = stores.iter().map(bench).collect();
             for &caches in &request.caches {
                 let times = measure(&mut benches, &clock, caches);
-                let table = Table::new(Setting { w, order, caches }, times);
+                let table = Table::new(plan, &stores, Setting { w, order, caches }, times);
                 report.measured(&table);
                 tables.push(table);
             }

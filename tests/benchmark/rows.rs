@@ -1,70 +1,28 @@
 //! The rows of the tables: which call is made, on which images.
 
 use crate::floor::Scan;
-use crate::pair::{Call, Pair};
-use crate::patch::Patch;
 use crate::reference::*;
+use crate::setup::Setup;
+use crate::trio::Call;
 
+#[derive(Clone, Copy)]
 pub struct Row {
     pub name: &'static str,
     pub setup: Setup,
     pub call: Call,
     pub scan: Scan,
+    /// Done, or the number of the refusal.
+    pub answer: u64,
+    /// How many calls one time is taken of.
+    pub repeats: usize,
+    /// The row whose time this one's is held to.
+    pub beside: Option<&'static str>,
 }
 
-/// The images a call finds.
-#[derive(Clone, Copy, PartialEq, Eq)]
-pub enum Setup {
-    /// As built: no chip has a place.
-    Full,
-    /// After a collection of each chip: each has a place.
-    Room,
-    /// A collection was cut after its copies.
-    Phase1,
-    /// A collection was cut before its first move.
-    Phase2,
-}
+/// For a call of a few nanoseconds, less than the clock can tell.
+const MANY: usize = 64;
 
-/// The calls that lead from the images as built to others, to be made and taken back.
-pub struct Steps(Vec<(Patch, Patch)>);
-
-impl Steps {
-    pub fn make(&self, pair: &mut Pair) {
-        self.0.iter().for_each(|(ahead, _)| pair.put(ahead));
-    }
-
-    pub fn take_back(&self, pair: &mut Pair) {
-        self.0.iter().rev().for_each(|(_, back)| pair.put(back));
-    }
-}
-
-impl Setup {
-    pub const ALL: [Setup; 4] = [Setup::Full, Setup::Room, Setup::Phase1, Setup::Phase2];
-
-    pub fn steps(self, pair: &mut Pair) -> Steps {
-        let collect = |pair: &mut Pair, chip, allowance| {
-            let (counts, back) = pair.by_both(Call::Collect { chip }, allowance);
-            (counts, (back.now(&pair.images), back))
-        };
-        let cut = |pair: &mut Pair, allowance: fn(u64) -> u64| {
-            let (counts, whole) = collect(pair, 0, u64::MAX);
-            pair.put(&whole.1);
-            vec![collect(pair, 0, allowance(counts.programs)).1]
-        };
-        let steps = Steps(match self {
-            Setup::Full => Vec::new(),
-            Setup::Room => (0..=pair.geometry.n).map(|chip| collect(pair, chip, u64::MAX).1).collect(),
-            // phase 1, and the copies
-            Setup::Phase1 => cut(pair, |copies| 1 + copies),
-            // phase 1, the copies, and phase 2
-            Setup::Phase2 => cut(pair, |copies| 1 + copies + 1),
-        });
-        steps.take_back(pair);
-        steps
-    }
-}
-
-/// The stripes that the calls name, all from the middle of the store on.
+/// The stripes that the calls name, all from the middle of the store on if there are.
 struct Stripes {
     plain: usize,
     slotted: usize,
@@ -75,7 +33,7 @@ impl Stripes {
     fn of(view: View) -> Stripes {
         let shape = view.shape;
         let from_middle = |wanted: &dyn Fn(usize, Record) -> bool| {
-            let mut stripes = shape.s / 2..shape.s;
+            let mut stripes = (shape.s / 2..shape.s).chain(0..shape.s / 2);
             stripes.find(|&j| wanted(j, view.record(j))).expect("stripes of each kind are everywhere")
         };
         // written on another chip than the parity of the stripe that is committed before it
@@ -90,7 +48,7 @@ impl Stripes {
 }
 
 /// All partial parities are in use: a write to a stripe without one commits.
-pub fn rows(view: View) -> Vec<Row> {
+pub fn calls(view: View) -> Vec<Row> {
     let shape = view.shape;
     let Stripes { plain, slotted, empty } = Stripes::of(view);
     let page = |stripe: usize| (stripe * shape.n) as u64;
@@ -117,11 +75,59 @@ pub fn rows(view: View) -> Vec<Row> {
     ]
 }
 
+const READ: &str = "read direct";
+
+/// A read and an open beside a collection that was cut.
+pub fn phases(view: View) -> Vec<Row> {
+    let page = (Stripes::of(view).plain * view.shape.n) as u64;
+    let read = |name, setup| row(name, setup, Call::Read { lost: NO_CHIP, page });
+    let beside = |name, setup| Row { beside: Some(READ), ..read(name, setup) };
+    let open = |name, setup| row(name, setup, Call::Open { lost: NO_CHIP });
+    vec![
+        read(READ, Setup::Full),
+        beside("read in phase 1", Setup::Phase1),
+        beside("read in phase 2, no move made", Setup::Phase2),
+        beside("read in phase 2, half of the moves made", Setup::Phase2Half),
+        open("open with nothing to do", Setup::Full),
+        open("open in phase 1", Setup::Phase1),
+        open("open in phase 2, no move made", Setup::Phase2),
+        open("open in phase 2, half of the moves made", Setup::Phase2Half),
+    ]
+}
+
+/// Calls that are turned back, beside a read that is not.
+pub fn refusals(view: View) -> Vec<Row> {
+    let shape = view.shape;
+    let Stripes { plain, .. } = Stripes::of(view);
+    let page = (plain * shape.n) as u64;
+    let read = |lost, page| Call::Read { lost, page };
+    let refused = |name, answer, setup, call| {
+        // those that look at no image, or at its first record alone
+        let repeats = if answer < 4 || setup == Setup::FirstRecord { MANY } else { 1 };
+        Row { answer, repeats, beside: Some(READ), scan: Scan::All, ..row(name, setup, call) }
+    };
+    let (last_page, chips) = ((shape.n * shape.s) as u64, shape.n as u64 + 1);
+    let plain_read = read(NO_CHIP, page);
+    vec![
+        row(READ, Setup::Full, plain_read),
+        refused("1: a geometry beyond the limits", 1, Setup::Full, Call::ReadBeyond),
+        refused("2: a buffer too short", 2, Setup::Full, Call::ReadShort),
+        refused("3: no such chip to lose", 3, Setup::Full, read(chips, page)),
+        refused("4: the first record", 4, Setup::FirstRecord, plain_read),
+        refused("4: the last record", 4, Setup::LastRecord, plain_read),
+        refused("5: a spare of the last chip", 5, Setup::LastSpare, plain_read),
+        refused("6: a write in phase 1", 6, Setup::Phase1, Call::Write { page }),
+        refused("6: a write in phase 2", 6, Setup::Phase2, Call::Write { page }),
+        refused("7: no such page", 7, Setup::Full, read(NO_CHIP, last_page)),
+        refused("10: a commit without a slot", 10, Setup::Full, Call::Commit { stripe: plain as u64 }),
+    ]
+}
+
 fn row(name: &'static str, setup: Setup, call: Call) -> Row {
     let scan = match call {
         Call::Format => Scan::Nothing,
         Call::Read { lost, .. } | Call::Open { lost } if lost != NO_CHIP => Scan::Without(lost as usize),
         _ => Scan::All,
     };
-    Row { name, setup, call, scan }
+    Row { name, setup, call, scan, answer: DONE, repeats: 1, beside: None }
 }

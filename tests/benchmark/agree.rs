@@ -1,0 +1,131 @@
+//! Random calls on small images, sound ones and others: the tuned implementation must agree with the second
+//! one in answer, counts and every byte.
+
+use crate::breakers::BREAKERS;
+use crate::damage::change_byte;
+use crate::generator::{self, ALL};
+use crate::owned::{Calls, REFERENCE, TUNED};
+use crate::random::Random;
+use crate::reference::{Geometry, Images, Shape, Status, NO_CHIP};
+use crate::trio::fail;
+use crate::tuned::direct::MOST_BYTES;
+use std::sync::atomic::Ordering::Relaxed;
+
+const CASES: usize = 6_000;
+const CALLS: usize = 4;
+
+pub fn check() {
+    let most_bytes = MOST_BYTES.load(Relaxed);
+    for case in 0..CASES {
+        // as a large store, and as a small one
+        MOST_BYTES.store(if case % 2 == 0 { 0 } else { most_bytes }, Relaxed);
+        let random = &mut Random::for_case(1, case as u64);
+        let g = geometry(random);
+        let shape = g.shape().expect("within the limits");
+        let (mut images, lost) = images(random, g, shape);
+        for _ in 0..CALLS {
+            let asked = Asked::any(random, shape, lost);
+            let mut others = images.clone();
+            let expected = asked.make(&REFERENCE, g, &mut images);
+            let found = asked.make(&TUNED, g, &mut others);
+            if found != expected || others != images {
+                fail(&format!("tuned, case {case}, {g:?}, {asked:?}: {found:?}, expected {expected:?}"));
+            }
+        }
+    }
+    MOST_BYTES.store(most_bytes, Relaxed);
+}
+
+/// Small mostly, so that commits and collections are frequent.
+fn geometry(random: &mut Random) -> Geometry {
+    let n = random.between(2, 6) as u64;
+    let (mut k, mut b, mut m) = (random.between(2, 5), random.between(2, 6), random.between(1, 4));
+    match random.below(50) {
+        0 => (k, b) = (random.between(100, 128), 2),
+        1 => (k, b) = (random.between(2, 20), random.between(10, 20)),
+        2 => (k, b, m) = (16, 18, 254),
+        _ => {}
+    }
+    if (b - 1) * k < m + 2 {
+        (k, m) = (k.max(3), 1);
+    }
+    let most = (b - 1) * k - m - 1;
+    let s = if random.one_in(4) { random.between(1, most) } else { most };
+    let w = 16 * random.between(1, 2) as u64;
+    Geometry { n, w, k: k as u64, b: b as u64, s: s as u64, m: m as u64 }
+}
+
+/// Images and the chip that is lost: sound, or with one condition broken, or a byte changed, or other bytes
+/// on the lost chip.
+fn images(random: &mut Random, g: Geometry, shape: Shape) -> (Images, u64) {
+    let mut images = match random.one_in(2) && shape.pages() < 100 {
+        true => generator::by_calls(random, g, shape),
+        false => {
+            let phase = random.pick(&[0, 0, 1, 2, 2]);
+            generator::sound(random, shape, phase)
+        }
+    };
+    match random.below(6) {
+        0 | 1 => {
+            let (_, _, breaker) = random.pick(&BREAKERS);
+            breaker(random, shape, &mut images);
+        }
+        2 => {
+            change_byte(random, shape, &mut images);
+        }
+        _ => {}
+    }
+    if !random.one_in(4) {
+        return (images, NO_CHIP);
+    }
+    let chip = random.below(shape.n + 1);
+    random.fill(&mut images.chips[chip * shape.chip_len()..][..shape.chip_len()]);
+    if random.one_in(2) {
+        generator::rename_on(random, shape, &mut images, chip);
+    }
+    (images, chip as u64)
+}
+
+/// A call with all its arguments.
+#[derive(Debug)]
+struct Asked {
+    kind: usize,
+    lost: u64,
+    number: u64,
+    bytes: Vec<u8>,
+    allowance: u64,
+}
+
+impl Asked {
+    /// Mostly within the limits.
+    fn any(random: &mut Random, shape: Shape, lost: u64) -> Asked {
+        let kind = random.pick(&[0, 1, 1, 2, 2, 3, 3, 3, 3, 4, 4, 5, 5]);
+        let highest = [0, 0, shape.n * shape.s, shape.n * shape.s, shape.s, shape.n + 1][kind];
+        let lost = if random.one_in(16) { random.below(shape.n + 3) as u64 } else { lost };
+        let number = match random.one_in(16) {
+            true => random.pick(&[highest as u64, ALL]),
+            false => random.below(highest.max(1)) as u64,
+        };
+        let len = if random.one_in(16) { shape.w - 1 } else { shape.w };
+        let allowance = match random.below(3) {
+            0 => random.below(2 * shape.k + 8) as u64,
+            _ => ALL,
+        };
+        Asked { kind, lost, number, bytes: random.bytes(len), allowance }
+    }
+
+    /// The answer, and the bytes that a read leaves.
+    fn make(&self, by: &Calls, g: Geometry, images: &mut Images) -> (Status, Vec<u8>) {
+        let &Asked { kind, lost, number, allowance, .. } = self;
+        let mut bytes = self.bytes.clone();
+        let status = match kind {
+            0 => (by.format)(g, images, allowance),
+            1 => (by.open)(g, images, lost, allowance),
+            2 => (by.read)(g, images, lost, number, &mut bytes),
+            3 => (by.write)(g, images, lost, number, &bytes, allowance),
+            4 => (by.commit)(g, images, lost, number, allowance),
+            _ => (by.collect)(g, images, lost, number, allowance),
+        };
+        (status, bytes)
+    }
+}
