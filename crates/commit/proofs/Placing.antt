@@ -7,7 +7,7 @@ use mathlib.Core.List.{List}
 use lib.ListN.{getD}
 use Rattle.ranges.specs.declared.Found.{Found}
 use Rattle.ranges.specs.declared.Found.the-variants.{At, Nothing}
-use Rattle.ranges.specs.Look.{whenFound}
+use Rattle.ranges.specs.Look.{whenFound, foundIn}
 use Rattle.layout.specs.declared.Geometry.{Geometry}
 use Rattle.layout.specs.Layout.{Layout, layoutOf, pages}
 use Rattle.layout.specs.Page.{pageAt}
@@ -116,5 +116,5 @@ placed-on l e fill h = rw e at h
 
 -- the victim of a chip, which may have another name, is known
 pub known-victim : {g : Geometry} {x r : List ℕ} {scans : List ChipScan} {c d : ℕ} {v : Found} → Victims g x r scans → c ≤ g .n → c ≡ d
-    → v ≡ getD scans c unscanned .victim .at → VictimFor g x r d v
+    → v ≡ foundIn (getD scans c unscanned .victim) → VictimFor g x r d v
 known-victim {c = c} h low same e = rw (← same) (record { is = λ _. e ∙ h .at c low })

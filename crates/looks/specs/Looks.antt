@@ -22,7 +22,7 @@ below (Failed r) rest = Failed r
 
 -- the scan of no block
 abbrev pub noBlock : ChipScan
-noBlock = record { ordered = true; clean = false; named = 0; victim = record { at = Nothing; measure = 0 } }
+noBlock = record { ordered = true; clean = false; named = 0; victim = record { found = false; at = 0; measure = 0 } }
 
 -- where the rows come to a refusal, nothing was looked at
 abbrev pub nothing : Refusal → Look

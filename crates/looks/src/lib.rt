@@ -49,7 +49,8 @@ fn refused(r: Refusal) -> Look
     ensures { λ o. ⌜ o ≡ nothing r ⌝ }
 {
     let victim = Least {
-        at: Found::Nothing,
+        found: false,
+        at: 0,
         measure: 0,
     };
     let none = ChipScan {

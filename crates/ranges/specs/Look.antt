@@ -48,9 +48,18 @@ unfoldable pub leastBelow : ℕ → (ℕ → Bool) → (ℕ → ℕ) → Found
 leastBelow zero f measure = Nothing
 leastBelow (suc n) f measure = cond (f n) (better measure (leastBelow n f measure) n) (leastBelow n f measure)
 
--- the same with its measure, 0 where there is none
+-- what was found with its measure, as the code's struct; 0 where there is none
+abbrev pub leastOf : (ℕ → ℕ) → Found → Least
+leastOf measure (At i) = record { found = true; at = i; measure = measure i }
+leastOf measure Nothing = record { found = false; at = 0; measure = 0 }
+
+-- of the numbers below n
 unfoldable pub leastSoFar : (ℕ → Bool) → (ℕ → ℕ) → ℕ → Least
-leastSoFar f measure n = record { at = leastBelow n f measure; measure = whenFound (leastBelow n f measure) measure 0 }
+leastSoFar f measure n = leastOf measure (leastBelow n f measure)
+
+-- and back
+abbrev pub foundIn : Least → Found
+foundIn x = cond (x .found) (At (x .at)) Nothing
 
 -- the sum of f 0, f 1, .. below n
 unfoldable pub sumBelow : ℕ → (ℕ → ℕ) → ℕ

@@ -3,7 +3,7 @@
 ghost use mathlib.Core.Path.{_≡_};
 ghost use mathlib.Core.Bool.{Bool, true};
 ghost use Prim.Native.Nat.{ℕ, _+_};
-ghost use Rattle.ranges.specs.Look.{leastSoFar};
+ghost use Rattle.ranges.specs.Look.{foundIn, leastSoFar};
 
 // What a search answers.
 pub enum Found {
@@ -11,9 +11,10 @@ pub enum Found {
     Nothing,
 }
 
-// The number of least measure among those passed that pass a test, and its measure; 0 where there is none.
+// The number of least measure among those passed that pass a test, and its measure; where none was found both are 0.
 pub struct Least {
-    pub at: Found,
+    pub found: bool,
+    pub at: usize,
     pub measure: usize,
 }
 
@@ -22,7 +23,8 @@ pub fn no_least() -> Least
     ensures { λ r. ⌜ ((f : ℕ → Bool) (m : ℕ → ℕ) → r ≡ leastSoFar f m 0) ⌝ }
 {
     Least {
-        at: Found::Nothing,
+        found: false,
+        at: 0,
         measure: 0,
     }
 }
@@ -34,13 +36,23 @@ pub fn with_next(least: Least, n: usize, passes: bool, measure: usize) -> Least
     if !passes {
         return least;
     }
-    let here = Least {
-        at: Found::At(n),
+    if least.found & (least.measure <= measure) {
+        return least;
+    }
+    Least {
+        found: true,
+        at: n,
         measure,
-    };
-    let at = least.at;
-    match at {
-        Found::Nothing => here,
-        Found::At(_) => { if measure < least.measure { here } else { least } }
+    }
+}
+
+// What was found.
+pub fn found_in(least: Least) -> Found
+    ensures { λ r. ⌜ r ≡ foundIn least ⌝ }
+{
+    if least.found {
+        Found::At(least.at)
+    } else {
+        Found::Nothing
     }
 }

@@ -9,10 +9,10 @@ use mathlib.Core.List.{List}
 use lib.ListN.{getD, set, replicate}
 use lib.Dec.{leb}
 use borrow.Author.Tests.{ne-eqb, leb-true}
-use Rattle.ranges.specs.Look.{allBelow, someBelow, countBelow, firstBelow, leastSoFar}
+use Rattle.ranges.specs.Look.{allBelow, someBelow, countBelow, firstBelow, leastSoFar, foundIn}
 use Rattle.ranges.specs.declared.Least.{Least}
 use Rattle.ranges.proofs.Looks.{by-test, first-cong}
-use Rattle.ranges.proofs.Leasts.{least-passed}
+use Rattle.ranges.proofs.Leasts.{least-passed, found-least}
 use Rattle.ranges.proofs.Tests.{differ, differ-by}
 use Rattle.ranges.proofs.Sums.{sum-start, sum-more}
 use Rattle.layout.specs.declared.Geometry.{Geometry}
@@ -167,10 +167,10 @@ module _ {g : Geometry} {r : ℕ → Record} {lost j : ℕ} {seen : List Bool} {
 
   -- and so is what they tell of the slots
   pub passed-slots : j ≡ g .s → g .m ≤ 254
-      → _≡_ {A = SlotScan} (record { slotted = t .slotted; cheapest = t .cheapest .at; free = firstBelow (g .m + 1) (unmarked seen) }) (slotScan (layoutOf g) r)
-  unfolding cheapest lowestFreeSlot leastSoFar
+      → _≡_ {A = SlotScan} (record { slotted = t .slotted; cheapest = foundIn (t .cheapest); free = firstBelow (g .m + 1) (unmarked seen) }) (slotScan (layoutOf g) r)
+  unfolding cheapest lowestFreeSlot
   passed-slots e few =
       let h : Tallied (layoutOf g) r (g .s) t = rw e at (p .tally) in
       let m : Marks r (g .s) seen = rw e at (p .table) in
       let free = first-cong (g .m + 1) (unmarked seen) (freeSlot (layoutOf g) r) (λ i low. ap not (m .told i (omega arith))) in
-      rw (h .counts, h .cheap, free)
+      rw (h .counts, found-least (slotted r) (recordCost (layoutOf g) r) (g .s) (h .cheap), free)

@@ -15,6 +15,7 @@ use layout::Geometry;
 use names::names_on;
 use ranges::Found;
 use ranges::Least;
+use ranges::found_in;
 use ranges::no_least;
 use ranges::with_next;
 ghost use mathlib.Core.Path.{_≡_};
@@ -249,7 +250,7 @@ pub fn scan_records(g: Geometry, records: &[u8], lost: usize) -> RecordsScan
     }
     let sound = tally.sound & tally.own & (tally.slotted <= most) & collection_passes(g, records);
     let least = tally.cheapest;
-    let cheapest = least.at;
+    let cheapest = found_in(least);
     let slots = SlotScan {
         slotted: tally.slotted,
         cheapest,

@@ -2,14 +2,14 @@
 use Prim.Native.Nat.{ℕ, zero, suc, _≤_, _<_}
 use native.Mathlib.Nat.{le-step, lt-suc-self}
 use native.Mathlib.Omega.{arith}
-use mathlib.Core.Path.{_≡_, refl, sym, _∙_}
+use mathlib.Core.Path.{_≡_, refl, sym, _∙_, ap}
 use mathlib.Core.Bool.{Bool, true, _&&_}
 use mathlib.Core.List.{List}
 use lib.Dec.{ltb}
 use borrow.Author.Tests.{not-true, not-false, lt-ltb, ltb-true}
 use Rattle.ranges.specs.declared.Found.{Found}
 use Rattle.ranges.specs.declared.Found.the-variants.{At, Nothing}
-use Rattle.ranges.specs.Look.{someBelow, better, leastBelow, leastSoFar, whenFound}
+use Rattle.ranges.specs.Look.{someBelow, better, leastBelow, leastSoFar, whenFound, foundIn}
 use Rattle.ranges.proofs.Looks.{by-test, some-at, some-none, least-at}
 use Rattle.ranges.proofs.Counts.{count-cong, count-all, count-less}
 use Rattle.ranges.proofs.Tests.{and-both}
@@ -28,6 +28,7 @@ use Rattle.spares.specs.declared.ChipScan.{ChipScan}
 use Rattle.spares.specs.Scans.{byStampIn, byStampCount, loose, chipScan, chipScans}
 use Rattle.spares.proofs.Scanning.{scans-at}
 use Rattle.space.specs.Victims.{victimWanted, VictimFor, Victims}
+use Rattle.ranges.proofs.Leasts.{found-least}
 
 -- ---- the least of numbers
 
@@ -93,10 +94,11 @@ module _ {g : Geometry} {chips records : List ℕ} {c : ℕ} (h : StampsPass g c
       rw (full, by-stamp-named b low) (lt-ltb (namedCount l c x r b) (g .k) few))
 
   -- the scan of the whole chip has found the victim
-  pub victim-found : {s : ChipScan} → s ≡ chipScan l r x c (g .b) → s .victim .at ≡ victimOf l c x r
-  unfolding chipScan leastSoFar victimOf
+  pub victim-found : {s : ChipScan} → s ≡ chipScan l r x c (g .b) → foundIn (s .victim) ≡ victimOf l c x r
+  unfolding chipScan victimOf
   victim-found e =
-      rw e (least-cong (g .b) (loose l r x c) (collectable l c x r) (byStampCount l r x c) (namedCount l c x r) loose-collectable by-stamp-named)
+      found-least (loose l r x c) (byStampCount l r x c) (g .b) (ap (λ (o : ChipScan). o .victim) e)
+      ∙ (least-cong (g .b) (loose l r x c) (collectable l c x r) (byStampCount l r x c) (namedCount l c x r) loose-collectable by-stamp-named)
 
 -- the one that is wanted is the victim, where there is no place
 pub victim-wanted : {g : Geometry} {chips records : List ℕ} {c : ℕ} {v : Found}

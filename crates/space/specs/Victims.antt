@@ -5,7 +5,7 @@ use Prim.Native.Nat.{ℕ, _≤_}
 use lib.ListN.{length, getD}
 use Rattle.ranges.specs.declared.Found.{Found}
 use Rattle.ranges.specs.declared.Found.the-variants.{Nothing}
-use Rattle.ranges.specs.Look.{whenFound}
+use Rattle.ranges.specs.Look.{whenFound, foundIn}
 use Rattle.layout.specs.declared.Geometry.{Geometry}
 use Rattle.layout.specs.Layout.{Layout, layoutOf}
 use Rattle.layout.specs.Page.{Page, pageAt}
@@ -28,4 +28,4 @@ pub record VictimFor (g : Geometry) (chips records : List ℕ) (c : ℕ) (v : Fo
 pub record Victims (g : Geometry) (chips records : List ℕ) (scans : List ChipScan) : Type 0 where
   pub long : length scans ≡ 7
   pub at : (c : ℕ) → c ≤ g .n
-      → getD scans c unscanned .victim .at ≡ victimOf (layoutOf g) c (pageAt (layoutOf g) chips c) (recordAt (layoutOf g) records)
+      → foundIn (getD scans c unscanned .victim) ≡ victimOf (layoutOf g) c (pageAt (layoutOf g) chips c) (recordAt (layoutOf g) records)

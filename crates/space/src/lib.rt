@@ -3,9 +3,11 @@
 use codec::is_clean;
 use layout::Geometry;
 use ranges::Found;
+use ranges::found_in;
 use spares::ChipScan;
 use spares::scan_chip;
 ghost use mathlib.Core.Path.{_≡_};
+ghost use Rattle.ranges.specs.Look.{foundIn};
 ghost use Rattle.layout.specs.Layout.{layoutOf};
 ghost use Rattle.layout.specs.Page.{pageAt};
 ghost use Rattle.layout.specs.Record.{recordAt};
@@ -77,10 +79,10 @@ pub fn clean_block_on(chips: &[u8], g: Geometry, c: usize) -> Found
 
 // The victim that the scan of a whole chip has found, if any.
 pub fn victim_in(s: ChipScan) -> Found
-    ensures { λ r. ⌜ r ≡ s .victim .at ⌝ }
+    ensures { λ r. ⌜ r ≡ foundIn (s .victim) ⌝ }
 {
     let least = s.victim;
-    least.at
+    found_in(least)
 }
 
 // The full block of chip c with fewest named pages, if one has a page that is not named; none where the chip has a place, for then

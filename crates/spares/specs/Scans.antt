@@ -37,7 +37,7 @@ pub record Room (tags stripes fields : List ℕ) : Type 0 where
 
 -- what stands for no chip
 abbrev pub unscanned : ChipScan
-unscanned = record { ordered = false; clean = false; named = 0; victim = record { at = At 0; measure = 0 } }
+unscanned = record { ordered = false; clean = false; named = 0; victim = record { found = false; at = 0; measure = 0 } }
 
 module _ (l : Layout) where
   open Layout l using (N, K, B, S)

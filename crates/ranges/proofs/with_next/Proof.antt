@@ -2,7 +2,7 @@
 use mathlib.Core.Path.{sym, _∙_}
 use borrow.Author.Needs.{needs}
 use borrow.Author.Tests.{not-true, not-false}
-use Rattle.ranges.proofs.Leasts.{least-passed, least-first, least-less, least-more}
+use Rattle.ranges.proofs.Leasts.{least-passed, least-stays, least-taken}
 use Rattle.ranges.proofs.with_next.Statement.{statement}
 use Rattle.ranges.proofs.with_next.Tie as tie
 
@@ -11,18 +11,13 @@ returns c f m is test measured = least-passed f m _ is (sym test ∙ not-true _ 
 
 returns-2 : tie.Need-returns-2
 returns-2 c f m is test measured =
-    let t = sym test ∙ not-false _ (c .before .before .if1 .left) in
-    least-first f m _ is t (measured t) (c .enum-told .given .1)
+    let t = sym test ∙ not-false _ (c .before .before .before .if1 .left) in
+    least-stays f m _ is t (measured t) (c .if2 .taken)
 
 returns-3 : tie.Need-returns-3
 returns-3 c f m is test measured =
-    let t = sym test ∙ not-false _ (c .before .before .before .before .if1 .left) in
-    least-less f m _ is t (measured t) _ (c .before .before .enum-told2 .given .1) (c .if2 .taken)
-
-returns-4 : tie.Need-returns-4
-returns-4 c f m is test measured =
-    let t = sym test ∙ not-false _ (c .before .before .before .before .if1 .left) in
-    least-more f m _ is t (measured t) _ (c .before .before .enum-told2 .given .1) (c .if2 .left)
+    let t = sym test ∙ not-false _ (c .before .before .before .if1 .left) in
+    least-taken f m _ is t (measured t) (c .if2 .left)
 
 pub with-next-spec : {M : Type 1} → statement M
-with-next-spec = tie.close (tie.spec returns (λ c. search needs) (λ c. search needs) returns-2 returns-3 returns-4)
+with-next-spec = tie.close (tie.spec returns returns-2 returns-3)

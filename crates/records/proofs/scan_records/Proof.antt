@@ -62,18 +62,18 @@ loop-again c =
     (c .if1 .came)
 
 lowest-unmarked-requires : tie.Need-lowest-unmarked-requires Inv-loop μ-loop
-lowest-unmarked-requires c κs = limits (c .before .before .before .before .before .before) .partials-high
+lowest-unmarked-requires c κs = limits (c .before .before .before .before .before .before .before) .partials-high
 
 returns : tie.Need-returns Inv-loop μ-loop
 returns c =
-    let o = c .before .before .before .before .before .before .before in
+    let o = c .before .before .before .before .before .before .before .before in
     let a = start o .args in
     let limited = start o .pre .limited in
     let p = o .loop .inv .1 in
     let all : o .loop .j ≡ a .g .s = omega arith in (
-      rw (c .before .before .before .collection-passes .ensures) (passed-all limited p all (collectionAt (layoutOf (a .g)) (a .records .now))),
+      rw (c .before .before .before .before .collection-passes .ensures) (passed-all limited p all (collectionAt (layoutOf (a .g)) (a .records .now))),
       passed-names limited p all,
-      rw (c .lowest-unmarked .ensures) (passed-slots limited p all (limits o .partials-high)),
+      rw (c .lowest-unmarked .ensures, c .before .before .found-in .ensures) (passed-slots limited p all (limits o .partials-high)),
     )
 
 pub scan-records-spec : {M : Type 1} → statement M
@@ -99,6 +99,7 @@ scan-records-spec =
     (λ c. omega arith)
     loop-again
     (λ c κs. search needs)
+    (λ c κs. search needs)
     lowest-unmarked-requires
-    (λ c. c .before .before .before .before .before .before .before .loop .inv .1 .less)
+    (λ c. c .before .before .before .before .before .before .before .before .loop .inv .1 .less)
     returns)
