@@ -1,5 +1,5 @@
--- The ways to look through the numbers below a bound. Every check and every choice of document 01 is one of these; sums are for what
--- code counts.
+-- The ways to look through the numbers below a bound. Every check and every choice of document 01 is one of these; sums are for pages
+-- read and for what code counts.
 -- Each recursion takes the last number at its end, as an ascending loop does.
 use Prim.Native.Nat.{ℕ, zero, suc, _+_}
 use mathlib.Core.Bool.{Bool, true, false, cond, _&&_, _||_}
