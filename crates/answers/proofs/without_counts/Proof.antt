@@ -3,11 +3,8 @@ use borrow.Author.Needs.{needs}
 use Rattle.answers.proofs.without_counts.Statement.{statement}
 use Rattle.answers.proofs.without_counts.Tie as tie
 
-refusal-number-requires : tie.Need-refusal-number-requires
-refusal-number-requires c κs = search needs
-
 returns : tie.Need-returns
 returns c = rw (c .refusal-number .ensures)
 
 pub without-counts-spec : {M : Type 1} → statement M
-without-counts-spec = tie.close (tie.spec refusal-number-requires returns)
+without-counts-spec = tie.close (tie.spec (λ c κs. search needs) returns)

@@ -26,75 +26,24 @@ within c =
     let w = number-within line (rw e at h) in
     rw e (omega (arith, length-take (taken c) (buffer c)))
 
-sub-parse : tie.Need-sub-parse
-sub-parse c = search needs
-
-part-parse-start : tie.Need-part-parse-start
-part-parse-start c = search needs
-
-part-parse-end : tie.Need-part-parse-end
-part-parse-end c = search needs
-
-parse-requires : tie.Need-parse-requires
-parse-requires c κs = search needs
-
-returns : tie.Need-returns
-returns c = search needs
-
-add-end : tie.Need-add-end
-add-end c = omega (arith, within c)
-
-sub-say : tie.Need-sub-say
-sub-say c = search needs
-
-part-say-start : tie.Need-part-say-start
-part-say-start c = search needs
-
-part-say-end : tie.Need-part-say-end
-part-say-end c = omega (arith, within c)
-
-say-requires : tie.Need-say-requires
-say-requires c κs = search needs
-
-obey-requires : tie.Need-obey-requires
-obey-requires c κs = search needs
-
-slice-aggregate-say : tie.Need-slice-aggregate-say
-slice-aggregate-say c = search needs
-
-say-requires-2 : tie.Need-say-requires-2
-say-requires-2 c κs = search needs
-
-same-length : tie.Need-same-length
-same-length c = search needs
-
-same-length-2 : tie.Need-same-length-2
-same-length-2 c = search needs
-
-same-length-3 : tie.Need-same-length-3
-same-length-3 c = search needs
-
-returns-2 : tie.Need-returns-2
-returns-2 c = search needs
-
 pub obey-line-spec : {M : Type 1} → statement M
 obey-line-spec =
     tie.close
     (tie.spec
-    sub-parse
-    part-parse-start
-    part-parse-end
-    parse-requires
-    returns
-    add-end
-    sub-say
-    part-say-start
-    part-say-end
-    say-requires
-    obey-requires
-    slice-aggregate-say
-    say-requires-2
-    same-length
-    same-length-2
-    same-length-3
-    returns-2)
+    (λ c. search needs)
+    (λ c. search needs)
+    (λ c. search needs)
+    (λ c κs. search needs)
+    (λ c. search needs)
+    (λ c. omega (arith, within c))
+    (λ c. search needs)
+    (λ c. search needs)
+    (λ c. omega (arith, within c))
+    (λ c κs. search needs)
+    (λ c κs. search needs)
+    (λ c. search needs)
+    (λ c κs. search needs)
+    (λ c. search needs)
+    (λ c. search needs)
+    (λ c. search needs)
+    (λ c. search needs))

@@ -13,28 +13,10 @@ Inv-loop dst₀ b i₀ i-end dst i = Stored (replicate (length dst₀) b) dst₀
 abbrev μ-loop : tie.MeasureT-loop
 μ-loop dst₀ b i₀ i-end dst i = i-end - i
 
-loop-holds : tie.Need-loop-holds Inv-loop μ-loop
-loop-holds c = stored-none (length-replicate (length (c .args .dst .now)) (c .args .b))
-
-slice-write-dst : tie.Need-slice-write-dst Inv-loop μ-loop
-slice-write-dst c = search needs
-
-add-i : tie.Need-add-i Inv-loop μ-loop
-add-i c = search needs
-
-loop-less : tie.Need-loop-less Inv-loop μ-loop
-loop-less c = search needs
-
 loop-again : tie.Need-loop-again Inv-loop μ-loop
 loop-again c =
     let h : c .before .loop .i < length (c .before .before .args .dst .now) = omega arith in
     stored-more (c .before .loop .inv) h (rw getD-replicate)
-
-same-length : tie.Need-same-length Inv-loop μ-loop
-same-length c = c .before .loop .inv .same
-
-returns : tie.Need-returns Inv-loop μ-loop
-returns c = stored-all (c .before .loop .inv) (omega arith)
 
 pub fill-spec : {M : Type 1} → statement M
 fill-spec =
@@ -42,10 +24,10 @@ fill-spec =
     (tie.spec
     Inv-loop
     μ-loop
-    loop-holds
-    slice-write-dst
-    add-i
-    loop-less
+    (λ c. stored-none (length-replicate (length (c .args .dst .now)) (c .args .b)))
+    (λ c. search needs)
+    (λ c. search needs)
+    (λ c. search needs)
     loop-again
-    same-length
-    returns)
+    (λ c. c .before .loop .inv .same)
+    (λ c. stored-all (c .before .loop .inv) (omega arith)))

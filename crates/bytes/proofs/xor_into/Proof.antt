@@ -14,34 +14,10 @@ Inv-loop dst₀ src i₀ i-end dst i = Stored (dst₀ ⊕ src) dst₀ i dst
 abbrev μ-loop : tie.MeasureT-loop
 μ-loop dst₀ src i₀ i-end dst i = i-end - i
 
-loop-holds : tie.Need-loop-holds Inv-loop μ-loop
-loop-holds c = stored-none (length-xors-left (c .args .dst .now) (c .args .src .now) (omega arith))
-
-slice-read-dst : tie.Need-slice-read-dst Inv-loop μ-loop
-slice-read-dst c = search needs
-
-shared-slice-read-dst : tie.Need-shared-slice-read-dst Inv-loop μ-loop
-shared-slice-read-dst c = search needs
-
-slice-write-dst : tie.Need-slice-write-dst Inv-loop μ-loop
-slice-write-dst c = search needs
-
-add-i : tie.Need-add-i Inv-loop μ-loop
-add-i c = search needs
-
-loop-less : tie.Need-loop-less Inv-loop μ-loop
-loop-less c = search needs
-
 loop-again : tie.Need-loop-again Inv-loop μ-loop
 loop-again c =
     let s = c .before .before .before .loop .inv in
     stored-more s (omega arith) (rw (stored-rest s, getD-xors))
-
-same-length : tie.Need-same-length Inv-loop μ-loop
-same-length c = c .before .loop .inv .same
-
-returns : tie.Need-returns Inv-loop μ-loop
-returns c = stored-all (c .before .loop .inv) (omega arith)
 
 pub xor-into-spec : {M : Type 1} → statement M
 xor-into-spec =
@@ -49,12 +25,12 @@ xor-into-spec =
     (tie.spec
     Inv-loop
     μ-loop
-    loop-holds
-    slice-read-dst
-    shared-slice-read-dst
-    slice-write-dst
-    add-i
-    loop-less
+    (λ c. stored-none (length-xors-left (c .args .dst .now) (c .args .src .now) (omega arith)))
+    (λ c. search needs)
+    (λ c. search needs)
+    (λ c. search needs)
+    (λ c. search needs)
+    (λ c. search needs)
     loop-again
-    same-length
-    returns)
+    (λ c. c .before .loop .inv .same)
+    (λ c. stored-all (c .before .loop .inv) (omega arith)))

@@ -34,12 +34,6 @@ seven c =
 returns : tie.Need-returns
 returns c = collect-refused _ _ _ _ _ (c .before .check .given .0 .0) (sym (told (c .before .before .before)) ∙ c .before .check .given .1)
 
-mul-victim-in : tie.Need-mul-victim-in
-mul-victim-in c = omega (arith, seven c)
-
-array-copy-out-victim-in : tie.Need-array-copy-out-victim-in
-array-copy-out-victim-in c = seven c
-
 collect-chip-requires : tie.Need-collect-chip-requires
 collect-chip-requires c κs =
     let (h, fits) = free-ready _ _ _ _ (c .before .before .before .before .before .before .before .before .before .before .before .before .before .settled-look .ensures) (passed (c .before .before .before .before .before .before .before .before .before)) in
@@ -69,8 +63,8 @@ collect-spec =
     (λ c. search needs)
     returns
     (λ c. search needs)
-    mul-victim-in
-    array-copy-out-victim-in
+    (λ c. omega (arith, seven c))
+    (λ c. seven c)
     (λ c κs. search needs)
     (λ c. search needs)
     (λ c κs. search needs)

@@ -26,12 +26,6 @@ ready c = let a = c .before .before .before .before .before .before .before .bef
 returns : tie.Need-returns
 returns c = read-refused _ _ _ _ _ (c .before .check .given .0 .0) (sym (told (c .before .before .before)) ∙ c .before .check .given .1)
 
-div-j : tie.Need-div-j
-div-j c = omega (arith, ready (c .before) .ready .fit .within-limits .members-low)
-
-rem-m : tie.Need-rem-m
-rem-m c = omega (arith, ready (c .before .before) .ready .fit .within-limits .members-low)
-
 read-member-requires : tie.Need-read-member-requires
 read-member-requires c κs =
     let h = ready (c .before .before .before) in
@@ -50,8 +44,8 @@ read-spec =
     (λ c. search needs)
     returns
     (λ c. search needs)
-    div-j
-    rem-m
+    (λ c. omega (arith, ready (c .before) .ready .fit .within-limits .members-low))
+    (λ c. omega (arith, ready (c .before .before) .ready .fit .within-limits .members-low))
     read-member-requires
     (λ c. search needs)
     returns-2)

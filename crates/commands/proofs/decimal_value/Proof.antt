@@ -21,26 +21,11 @@ loop-holds c = (omega arith, refl)
 mul-n : tie.Need-mul-n Inv-loop μ-loop
 mul-n c = omega (arith, value-small (c .before .before .before .args .s .now) (c .before .loop .i) (omega arith))
 
-byte-at-requires : tie.Need-byte-at-requires Inv-loop μ-loop
-byte-at-requires c κs = search needs
-
-digit-value-requires : tie.Need-digit-value-requires Inv-loop μ-loop
-digit-value-requires c κs = search needs
-
-wide-requires : tie.Need-wide-requires Inv-loop μ-loop
-wide-requires c κs = search needs
-
 add-n : tie.Need-add-n Inv-loop μ-loop
 add-n c =
     let l = c .before .before .before .before .loop in
     let small = value-small (c .before .before .before .before .before .before .args .s .now) (l .i) (omega arith) in
     omega (arith, digit-most (c .before .before .byte-at .result))
-
-add-i : tie.Need-add-i Inv-loop μ-loop
-add-i c = search needs
-
-loop-less : tie.Need-loop-less Inv-loop μ-loop
-loop-less c = search needs
 
 loop-again : tie.Need-loop-again Inv-loop μ-loop
 loop-again c =
@@ -61,11 +46,11 @@ decimal-value-spec =
     μ-loop
     loop-holds
     mul-n
-    byte-at-requires
-    digit-value-requires
-    wide-requires
+    (λ c κs. search needs)
+    (λ c κs. search needs)
+    (λ c κs. search needs)
     add-n
-    add-i
-    loop-less
+    (λ c. search needs)
+    (λ c. search needs)
     loop-again
     returns)

@@ -17,9 +17,6 @@ sub-result-2 c =
     let b = c .before .before .args .b in
     leb-true 97 b (and-both (leb 97 b) (leb b 102) (c .if2 .taken) .0)
 
-add-result : tie.Need-add-result
-add-result c = search needs
-
 returns : tie.Need-returns
 unfolding digitValue
 returns c = rw (c .if1 .taken)
@@ -34,4 +31,4 @@ returns-3 c = rw (c .before .if1 .left, c .if2 .left)
 
 pub digit-value-spec : {M : Type 1} → statement M
 digit-value-spec =
-    tie.close (tie.spec sub-result sub-result-2 add-result returns returns-2 returns-3)
+    tie.close (tie.spec sub-result sub-result-2 (λ c. search needs) returns returns-2 returns-3)

@@ -3,11 +3,8 @@ use borrow.Author.Needs.{needs}
 use Rattle.commands.proofs.is_numbered.Statement.{statement}
 use Rattle.commands.proofs.is_numbered.Tie as tie
 
-byte-at-requires : tie.Need-byte-at-requires
-byte-at-requires c κs = search needs
-
 returns : tie.Need-returns
 returns c = rw (c .byte-at .ensures)
 
 pub is-numbered-spec : {M : Type 1} → statement M
-is-numbered-spec = tie.close (tie.spec byte-at-requires returns)
+is-numbered-spec = tie.close (tie.spec (λ c κs. search needs) returns)

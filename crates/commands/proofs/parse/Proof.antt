@@ -40,29 +40,8 @@ is-numbered c = sym (c .before .is-numbered .ensures) ∙ not-false (c .before .
 few : (c : tie.Else2) → k₂ c ≤ 5
 few c = numbered-is (line₂ c) (k₂ c) (is-numbered c) .few
 
-no-command-requires : tie.Need-no-command-requires
-no-command-requires c κs = search needs
-
 returns : tie.Need-returns
 returns c = c .no-command .ensures ∙ sym (short-line (c .before .before .before .args .line .now) (c .before .if1 .taken))
-
-sub-digit-count : tie.Need-sub-digit-count
-sub-digit-count c = search needs
-
-part-digit-count-start : tie.Need-part-digit-count-start
-part-digit-count-start c = search needs
-
-part-digit-count-end : tie.Need-part-digit-count-end
-part-digit-count-end c = search needs
-
-digit-count-requires : tie.Need-digit-count-requires
-digit-count-requires c κs = search needs
-
-is-numbered-requires : tie.Need-is-numbered-requires
-is-numbered-requires c κs = search needs
-
-no-command-requires-2 : tie.Need-no-command-requires-2
-no-command-requires-2 c κs = search needs
 
 returns-2 : tie.Need-returns-2
 returns-2 c =
@@ -70,45 +49,12 @@ returns-2 c =
     let f = sym (c .before .before .is-numbered .ensures) ∙ not-true (c .before .before .is-numbered .result) (c .before .if2 .taken) in
     c .no-command2 .ensures ∙ sym (unnumbered (line d) (k d) (counted d) f)
 
-byte-at-requires : tie.Need-byte-at-requires
-byte-at-requires c κs = search needs
-
-sub-decimal-value : tie.Need-sub-decimal-value
-sub-decimal-value c = search needs
-
-part-decimal-value-start : tie.Need-part-decimal-value-start
-part-decimal-value-start c = search needs
-
-part-decimal-value-end : tie.Need-part-decimal-value-end
-part-decimal-value-end c = search needs
-
-decimal-value-requires : tie.Need-decimal-value-requires
-decimal-value-requires c κs = few (c .before .before)
-
-is-alone-requires : tie.Need-is-alone-requires
-is-alone-requires c κs = few (c .before .before .before)
-
 returns-3 : tie.Need-returns-3
 returns-3 c =
     let d = c .before .before .before .before .before in
     let u = sym (c .before .is-alone .ensures) ∙ c .if3 .taken in
     let e = number-alone (line₂ d) (k₂ d) (counted (d .before .before)) (is-numbered d) u in
     rw (c .before .before .before .before .byte-at .ensures, c .before .before .decimal-value .ensures, whole (line₂ d), e)
-
-is-filled-requires : tie.Need-is-filled-requires
-is-filled-requires c κs = few (c .before .before .before .before .before)
-
-add-byte-at : tie.Need-add-byte-at
-add-byte-at c = omega (arith, few (c .before .before .before .before .before .before .before))
-
-byte-at-requires-2 : tie.Need-byte-at-requires-2
-byte-at-requires-2 c κs = search needs
-
-add-byte-at-2 : tie.Need-add-byte-at-2
-add-byte-at-2 c = omega (arith, few (c .before .before .before .before .before .before .before .before))
-
-byte-at-requires-3 : tie.Need-byte-at-requires-3
-byte-at-requires-3 c κs = search needs
 
 byte-value-requires : tie.Need-byte-value-requires
 byte-value-requires c κs =
@@ -128,9 +74,6 @@ returns-4 c =
     let low = c .before .byte-at3 .ensures in
     rw (letter, number, whole (line₂ d), c .byte-value .ensures, high, low, e)
 
-no-command-requires-3 : tie.Need-no-command-requires-3
-no-command-requires-3 c κs = search needs
-
 returns-5 : tie.Need-returns-5
 returns-5 c =
     let d = c .before .before .before .before .before .before .before .before in
@@ -143,28 +86,28 @@ pub parse-spec : {M : Type 1} → statement M
 parse-spec =
     tie.close
     (tie.spec
-    no-command-requires
+    (λ c κs. search needs)
     returns
-    sub-digit-count
-    part-digit-count-start
-    part-digit-count-end
-    digit-count-requires
-    is-numbered-requires
-    no-command-requires-2
+    (λ c. search needs)
+    (λ c. search needs)
+    (λ c. search needs)
+    (λ c κs. search needs)
+    (λ c κs. search needs)
+    (λ c κs. search needs)
     returns-2
-    byte-at-requires
-    sub-decimal-value
-    part-decimal-value-start
-    part-decimal-value-end
-    decimal-value-requires
-    is-alone-requires
+    (λ c κs. search needs)
+    (λ c. search needs)
+    (λ c. search needs)
+    (λ c. search needs)
+    (λ c κs. few (c .before .before))
+    (λ c κs. few (c .before .before .before))
     returns-3
-    is-filled-requires
-    add-byte-at
-    byte-at-requires-2
-    add-byte-at-2
-    byte-at-requires-3
+    (λ c κs. few (c .before .before .before .before .before))
+    (λ c. omega (arith, few (c .before .before .before .before .before .before .before)))
+    (λ c κs. search needs)
+    (λ c. omega (arith, few (c .before .before .before .before .before .before .before .before)))
+    (λ c κs. search needs)
     byte-value-requires
     returns-4
-    no-command-requires-3
+    (λ c κs. search needs)
     returns-5)

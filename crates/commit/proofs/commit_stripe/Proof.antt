@@ -11,29 +11,17 @@ use Rattle.commit.proofs.Placing.{seven, known-victim, record-passes, p
 use Rattle.commit.proofs.commit_stripe.Statement.{statement}
 use Rattle.commit.proofs.commit_stripe.Tie as tie
 
-parity-chip-requires : tie.Need-parity-chip-requires
-parity-chip-requires c κs = search needs
-
 mul-victim-in : tie.Need-mul-victim-in
 mul-victim-in c = omega (arith, seven (c .before .before .before .before .before .before .pre .0) (c .before .before .parity-chip .ensures .1))
 
 array-copy-out-victim-in : tie.Need-array-copy-out-victim-in
 array-copy-out-victim-in c = seven (c .before .before .before .before .before .before .pre .0) (c .before .before .parity-chip .ensures .1)
 
-victim-in-requires : tie.Need-victim-in-requires
-victim-in-requires c κs = search needs
-
 make-room-requires : tie.Need-make-room-requires
 make-room-requires c κs =
     let h = c .before .before .before .before .before .before .before .before .pre in
     let on = c .before .before .before .before .parity-chip .ensures in
     (h .0, on .1, known-victim (h .5) (on .1) refl (c .victim-in .ensures), h .3, h .1)
-
-same-length : tie.Need-same-length
-same-length c = search needs
-
-same-length-2 : tie.Need-same-length-2
-same-length-2 c = search needs
 
 returns : tie.Need-returns
 unfolding commitSteps
@@ -51,9 +39,6 @@ place-on-requires c κs =
     let on = c .before .before .before .before .before .before .before .before .before .before .before .parity-chip .ensures in
     let first = c .before .before .before .before .before .before .make-room .ensures (now (a .slots)) (s .pre .1 .long) in
     ordered (room-settled (s .pre .0) (s .pre .1) (on .1) first (c .before .if1 .left) .checked) (on .1)
-
-enum-known-q : tie.Need-enum-known-q
-enum-known-q c = search needs
 
 commit-at-requires : tie.Need-commit-at-requires
 commit-at-requires c κs =
@@ -73,15 +58,6 @@ commit-at-requires c κs =
       room-slotted (s .pre .0) (s .pre .1) (on .1) first going (s .pre .2) (s .pre .4),
     )
 
-enum-told : tie.Need-enum-told
-enum-told c = search needs
-
-same-length-3 : tie.Need-same-length-3
-same-length-3 c = search needs
-
-same-length-4 : tie.Need-same-length-4
-same-length-4 c = search needs
-
 returns-2 : tie.Need-returns-2
 unfolding commitSteps
 returns-2 c =
@@ -91,12 +67,6 @@ returns-2 c =
     let first = c .before .before .before .before .before .before .before .before .before .before .before .before .before .before .before .before .before .make-room .ensures (now (a .slots)) (s .pre .1 .long) in
     placed-on (layoutOf (a .g)) (on .0) (commitAt (layoutOf (a .g)) (a .j))
     (placed-at (s .pre .0) (s .pre .1) (on .1) first (commitAt (layoutOf (a .g)) (a .j)) (sym (c .before .before .before .before .before .before .before .before .before .before .place-on .ensures) ∙ c .before .before .before .before .before .before .before .before .q .given .1) (c .before .before .before .before .commit-at .ensures))
-
-same-length-5 : tie.Need-same-length-5
-same-length-5 c = search needs
-
-same-length-6 : tie.Need-same-length-6
-same-length-6 c = search needs
 
 returns-3 : tie.Need-returns-3
 unfolding commitSteps
@@ -112,21 +82,21 @@ pub commit-stripe-spec : {M : Type 1} → statement M
 commit-stripe-spec =
     tie.close
     (tie.spec
-    parity-chip-requires
+    (λ c κs. search needs)
     mul-victim-in
     array-copy-out-victim-in
-    victim-in-requires
+    (λ c κs. search needs)
     make-room-requires
-    same-length
-    same-length-2
+    (λ c. search needs)
+    (λ c. search needs)
     returns
     place-on-requires
-    enum-known-q
+    (λ c. search needs)
     commit-at-requires
-    enum-told
-    same-length-3
-    same-length-4
+    (λ c. search needs)
+    (λ c. search needs)
+    (λ c. search needs)
     returns-2
-    same-length-5
-    same-length-6
+    (λ c. search needs)
+    (λ c. search needs)
     returns-3)

@@ -8,12 +8,6 @@ use Rattle.rules.specs.Costs.{costOf}
 use Rattle.costs.proofs.cost_of.Statement.{statement}
 use Rattle.costs.proofs.cost_of.Tie as tie
 
-most-in-partial-requires : tie.Need-most-in-partial-requires
-most-in-partial-requires c κs = search needs
-
-sub-result : tie.Need-sub-result
-sub-result c = search needs
-
 add-result : tie.Need-add-result
 add-result c = let s = c .before .before in omega (arith, s .pre .1, within (layoutOf (s .args .g)) (s .pre .0) .members-high)
 
@@ -33,4 +27,4 @@ returns-2 c =
 
 pub cost-of-spec : {M : Type 1} → statement M
 cost-of-spec =
-    tie.close (tie.spec most-in-partial-requires sub-result add-result returns returns-2)
+    tie.close (tie.spec (λ c κs. search needs) (λ c. search needs) add-result returns returns-2)

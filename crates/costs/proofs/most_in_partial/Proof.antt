@@ -6,11 +6,8 @@ use Rattle.layout.proofs.Limits.{within}
 use Rattle.costs.proofs.most_in_partial.Statement.{statement}
 use Rattle.costs.proofs.most_in_partial.Tie as tie
 
-add-result : tie.Need-add-result
-add-result c = omega (arith, within (layoutOf (c .args .g)) (c .pre) .members-high)
-
 returns : tie.Need-returns
 returns c = refl
 
 pub most-in-partial-spec : {M : Type 1} → statement M
-most-in-partial-spec = tie.close (tie.spec add-result returns)
+most-in-partial-spec = tie.close (tie.spec (λ c. omega (arith, within (layoutOf (c .args .g)) (c .pre) .members-high)) returns)

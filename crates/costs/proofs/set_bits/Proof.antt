@@ -30,12 +30,6 @@ bit-of-requires c κs = let s = c .before .before in omega (arith, within (layou
 add-p : tie.Need-add-p Inv-loop μ-loop
 add-p c = omega (arith, count-le (c .before .before .before .loop .m) (testBit (c .before .before .before .before .args .bitmap)))
 
-add-m : tie.Need-add-m Inv-loop μ-loop
-add-m c = omega arith
-
-loop-less : tie.Need-loop-less Inv-loop μ-loop
-loop-less c = omega arith
-
 loop-again : tie.Need-loop-again Inv-loop μ-loop
 loop-again c =
     let o = c .before .before .before .loop in
@@ -57,4 +51,4 @@ returns c =
 pub set-bits-spec : {M : Type 1} → statement M
 set-bits-spec =
     tie.close
-    (tie.spec Inv-loop μ-loop loop-holds bit-of-requires add-p add-m loop-less loop-again returns)
+    (tie.spec Inv-loop μ-loop loop-holds bit-of-requires add-p (λ c. omega arith) (λ c. omega arith) loop-again returns)

@@ -23,8 +23,5 @@ sane n h =
 returns : tie.Need-returns
 returns c = (ap (started noCounts) (sym (min-eq-left (omega arith))), sane (c .before .args .allowance) (omega arith))
 
-returns-2 : tie.Need-returns-2
-returns-2 c = (ap (started noCounts) (sym (min-eq-right (omega arith))), sane (2 ^ 59) (omega arith))
-
 pub start-spec : {M : Type 1} → statement M
-start-spec = tie.close (tie.spec returns returns-2)
+start-spec = tie.close (tie.spec returns (λ c. (ap (started noCounts) (sym (min-eq-right (omega arith))), sane (2 ^ 59) (omega arith))))

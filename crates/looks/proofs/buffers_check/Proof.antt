@@ -5,15 +5,9 @@ use Rattle.looks.proofs.Passing.{passed, failed}
 use Rattle.looks.proofs.buffers_check.Statement.{statement}
 use Rattle.looks.proofs.buffers_check.Tie as tie
 
-geometry-passes-requires : tie.Need-geometry-passes-requires
-geometry-passes-requires c κs = search needs
-
 returns : tie.Need-returns
 unfolding buffersRows
 returns c = rw (failed (c .before .geometry-passes .ensures) (c .if1 .taken))
-
-lengths-pass-requires : tie.Need-lengths-pass-requires
-lengths-pass-requires c κs = passed (c .before .geometry-passes .ensures) (c .if1 .left)
 
 returns-2 : tie.Need-returns-2
 unfolding buffersRows
@@ -25,4 +19,4 @@ returns-3 c = rw (passed (c .before .before .before .geometry-passes .ensures) (
 
 pub buffers-check-spec : {M : Type 1} → statement M
 buffers-check-spec =
-    tie.close (tie.spec geometry-passes-requires returns lengths-pass-requires returns-2 returns-3)
+    tie.close (tie.spec (λ c κs. search needs) returns (λ c κs. passed (c .before .geometry-passes .ensures) (c .if1 .left)) returns-2 returns-3)

@@ -9,12 +9,6 @@ use Rattle.names.proofs.Stamping.{named-by-stamp}
 use Rattle.names.proofs.named_at.Statement.{statement}
 use Rattle.names.proofs.named_at.Tie as tie
 
-spare-at-requires : tie.Need-spare-at-requires
-spare-at-requires c κs = search needs
-
-named-by-stamp-requires : tie.Need-named-by-stamp-requires
-named-by-stamp-requires c κs = search needs
-
 returns : tie.Need-returns
 returns c =
     let s = c .before .before .before .before in
@@ -26,4 +20,4 @@ returns c =
     ∙ sym (named-by-stamp l w (recordAt l (a .records .now)) x (a .c) (s .pre .0 .stamps) (a .p) (s .pre .1))
 
 pub named-at-spec : {M : Type 1} → statement M
-named-at-spec = tie.close (tie.spec spare-at-requires named-by-stamp-requires returns)
+named-at-spec = tie.close (tie.spec (λ c κs. search needs) (λ c κs. search needs) returns)

@@ -16,9 +16,6 @@ returns c x e =
     let l = layoutOf (a .g) in
     sym (stamp-beyond l (recordAt l (a .records .now)) x (a .c) (a .p) (a .t) e (c .if1 .taken))
 
-stripe-pages-requires : tie.Need-stripe-pages-requires
-stripe-pages-requires c κs = search needs
-
 returns-2 : tie.Need-returns-2
 returns-2 c x e =
     let a = c .before .before .before .before .before .before .before .before .args in
@@ -46,4 +43,4 @@ returns-4 c x e =
     rw (stamps .0, stamps .1, ne-eqb (q .main) (a .p) (c .before .if3 .left)) at is
 
 pub named-by-stamp-spec : {M : Type 1} → statement M
-named-by-stamp-spec = tie.close (tie.spec returns stripe-pages-requires returns-2 returns-3 returns-4)
+named-by-stamp-spec = tie.close (tie.spec returns (λ c κs. search needs) returns-2 returns-3 returns-4)

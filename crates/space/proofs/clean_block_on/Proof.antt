@@ -24,9 +24,6 @@ abbrev μ-loop : tie.MeasureT-loop
 abbrev isClean : tie.Start Inv-loop μ-loop → ℕ → Bool
 isClean s = let l = layoutOf (s .args .g) in cleanBlock l (pageAt l (s .args .chips .now) (s .args .c))
 
-loop-holds : tie.Need-loop-holds Inv-loop μ-loop
-loop-holds c = (omega arith, first-start (isClean (c .before)))
-
 mul-is-clean : tie.Need-mul-is-clean Inv-loop μ-loop
 mul-is-clean c = omega (arith, first-page (c .before .before .before .pre) (c .before .loop .b) (c .loop-test .taken))
 
@@ -41,12 +38,6 @@ returns c =
     let s = o .before .before in
     let here = first-tells (s .pre) (o .loop .b) (c .before .before .loop-test .taken) (c .before .is-clean .ensures) ∙ c .if1 .taken in
     sym (first-is (s .args .g .b) (isClean s) (o .loop .b) (c .before .before .loop-test .taken) here (first-nothing (o .loop .b) (isClean s) (o .loop .inv .1)))
-
-add-b : tie.Need-add-b Inv-loop μ-loop
-add-b c = omega arith
-
-loop-less : tie.Need-loop-less Inv-loop μ-loop
-loop-less c = omega arith
 
 loop-again : tie.Need-loop-again Inv-loop μ-loop
 loop-again c =
@@ -67,11 +58,11 @@ clean-block-on-spec =
     (tie.spec
     Inv-loop
     μ-loop
-    loop-holds
+    (λ c. (omega arith, first-start (isClean (c .before))))
     mul-is-clean
     is-clean-requires
     returns
-    add-b
-    loop-less
+    (λ c. omega arith)
+    (λ c. omega arith)
     loop-again
     returns-2)

@@ -32,9 +32,6 @@ Inv-search chips g c blocks k found₀ clean₀ lowest₀ b₀ found clean lowes
 abbrev μ-search : tie.MeasureT-search
 μ-search chips g c blocks k found₀ clean₀ lowest₀ b₀ found clean lowest b = g .b - b
 
-search-holds : tie.Need-search-holds Inv-loop μ-loop Inv-search μ-search
-search-holds c = (omega arith, search-start)
-
 -- the first and the last page of the block at hand
 first : (c : tie.In-search Inv-loop μ-loop Inv-search μ-search) → OnChip (c .before .before .before .args .g) (c .before .search .b * c .before .before .before .args .g .k)
 first c = first-page (c .before .before .before .pre) (c .before .search .b) (c .search-test .taken)
@@ -54,20 +51,8 @@ place c =
     let o = c .before .before .before .before .before .before .before in
     place-low (start c .args .g) (start c .pre .chips-fit .limited) (o .search .b) (c .before .loop .i) (c .before .before .before .before .before .before .search-test .taken) (c .loop-test .taken)
 
-mul-first : tie.Need-mul-first Inv-loop μ-loop Inv-search μ-search
-mul-first c = omega (arith, first c)
-
 is-clean-requires : tie.Need-is-clean-requires Inv-loop μ-loop Inv-search μ-search
 is-clean-requires c κs = let h = c .before .before .before .pre in (h .chips-fit, h .chip, first c .0)
-
-add-clean : tie.Need-add-clean Inv-loop μ-loop Inv-search μ-search
-add-clean c = omega (arith, search-few (c .before .before .before .before .search .inv .1))
-
-add-is-clean : tie.Need-add-is-clean Inv-loop μ-loop Inv-search μ-search
-add-is-clean c = omega (arith, last (c .before .before))
-
-sub-is-clean : tie.Need-sub-is-clean Inv-loop μ-loop Inv-search μ-search
-sub-is-clean c = omega (arith, some-places (c .before .before .before .before .before .pre))
 
 is-clean-requires-2 : tie.Need-is-clean-requires-2 Inv-loop μ-loop Inv-search μ-search
 is-clean-requires-2 c κs = let h = c .before .before .before .before .before .pre in (h .chips-fit, h .chip, last (c .before .before) .0)
@@ -80,20 +65,8 @@ loop-holds c =
     let used = sym (c .before .before .before .is-clean .ensures) ∙ c .before .before .if1 .left in
     (some-places (s .pre), begun-inside l (pageAt l (s .args .chips .now) (s .args .c)) (o .search .b) used)
 
-add-is-clean-2 : tie.Need-add-is-clean-2 Inv-loop μ-loop Inv-search μ-search
-add-is-clean-2 c = omega (arith, place c)
-
 is-clean-requires-3 : tie.Need-is-clean-requires-3 Inv-loop μ-loop Inv-search μ-search
 is-clean-requires-3 c κs = let h = start c .pre in (h .chips-fit, h .chip, place c .0)
-
-add-t22 : tie.Need-add-t22 Inv-loop μ-loop Inv-search μ-search
-add-t22 c = omega (arith, place (c .before .before))
-
-add-i : tie.Need-add-i Inv-loop μ-loop Inv-search μ-search
-add-i c = omega (arith, place (c .before .before))
-
-loop-less : tie.Need-loop-less Inv-loop μ-loop Inv-search μ-search
-loop-less c = omega arith
 
 loop-again : tie.Need-loop-again Inv-loop μ-loop Inv-search μ-search
 loop-again c =
@@ -102,12 +75,6 @@ loop-again c =
     let a = start (c .before .before) .args in
     let l = layoutOf (a .g) in
     (omega arith, rw add-one (first-not-here (o .i) (cleanIn l (pageAt l (a .chips .now) (a .c)) b) (o .inv .1) (sym (c .before .is-clean3 .ensures) ∙ c .if4 .left)))
-
-add-b : tie.Need-add-b Inv-loop μ-loop Inv-search μ-search
-add-b c = omega arith
-
-search-less : tie.Need-search-less Inv-loop μ-loop Inv-search μ-search
-search-less c = omega arith
 
 search-again : tie.Need-search-again Inv-loop μ-loop Inv-search μ-search
 search-again c =
@@ -127,12 +94,6 @@ search-again c =
           (λ w. rw (w .3, w .4, w .5) (search-full (o .inv .1) (clean ∙ w .0 .left) (rw (w .0 .left, w .2 .left) at (open-tells (s .pre) (o .b) low (c .before .is-clean .ensures) (w .1 .ensures))))))
           (c .if1 .came),
     )
-
-enum-known-found : tie.Need-enum-known-found Inv-loop μ-loop Inv-search μ-search
-enum-known-found c = search needs
-
-enum-told : tie.Need-enum-told Inv-loop μ-loop Inv-search μ-search
-enum-told c = search needs
 
 -- the answers after the search
 answered : (c : tie.Left-search Inv-loop μ-loop Inv-search μ-search)
@@ -154,9 +115,6 @@ returns c = answered (c .before .before .before) .begun (c .before .found .given
 returns-2 : tie.Need-returns-2 Inv-loop μ-loop Inv-search μ-search
 returns-2 c = answered (c .before .before .before) .fresh (c .before .enum-told .given .1) (c .if5 .taken)
 
-returns-3 : tie.Need-returns-3 Inv-loop μ-loop Inv-search μ-search
-returns-3 c = answered (c .before .before .before) .nowhere (c .before .enum-told .given .1) (c .if5 .left)
-
 pub place-on-spec : {M : Type 1} → statement M
 place-on-spec =
     tie.close
@@ -165,25 +123,25 @@ place-on-spec =
     μ-loop
     Inv-search
     μ-search
-    search-holds
-    mul-first
+    (λ c. (omega arith, search-start))
+    (λ c. omega (arith, first c))
     is-clean-requires
-    add-clean
-    add-is-clean
-    sub-is-clean
+    (λ c. omega (arith, search-few (c .before .before .before .before .search .inv .1)))
+    (λ c. omega (arith, last (c .before .before)))
+    (λ c. omega (arith, some-places (c .before .before .before .before .before .pre)))
     is-clean-requires-2
     loop-holds
-    add-is-clean-2
+    (λ c. omega (arith, place c))
     is-clean-requires-3
-    add-t22
-    add-i
-    loop-less
+    (λ c. omega (arith, place (c .before .before)))
+    (λ c. omega (arith, place (c .before .before)))
+    (λ c. omega arith)
     loop-again
-    add-b
-    search-less
+    (λ c. omega arith)
+    (λ c. omega arith)
     search-again
-    enum-known-found
-    enum-told
+    (λ c. search needs)
+    (λ c. search needs)
     returns
     returns-2
-    returns-3)
+    (λ c. answered (c .before .before .before) .nowhere (c .before .enum-told .given .1) (c .if5 .left)))

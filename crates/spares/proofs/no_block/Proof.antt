@@ -3,8 +3,5 @@ use Rattle.spares.proofs.Scanning.{scan-start}
 use Rattle.spares.proofs.no_block.Statement.{statement}
 use Rattle.spares.proofs.no_block.Tie as tie
 
-returns : tie.Need-returns
-returns c = scan-start (c .no-least .ensures)
-
 pub no-block-spec : {M : Type 1} → statement M
-no-block-spec = tie.close (tie.spec (λ c κs. search needs) returns)
+no-block-spec = tie.close (tie.spec (λ c κs. search needs) (λ c. scan-start (c .no-least .ensures)))

@@ -28,9 +28,6 @@ with-block-requires c κs =
     let o = c .before .before .before .before .loop .inv in
     (h .0, h .1, h .2, c .before .before .before .loop-test .taken, o .2, o .1)
 
-loop-again : tie.Need-loop-again Inv-loop μ-loop
-loop-again c = (omega arith, c .with-block .ensures .0, c .with-block .ensures .1)
-
 returns : tie.Need-returns Inv-loop μ-loop
 returns c = let all : c .before .loop .b ≡ c .before .before .before .before .before .args .g .b = omega arith in rw all at (c .before .loop .inv .1)
 
@@ -45,5 +42,5 @@ scan-chip-spec =
     with-block-requires
     (λ c. omega (arith, c .before .before .before .before .loop-test .taken, within (layoutOf (c .before .before .before .before .before .before .before .before .before .args .g)) (c .before .before .before .before .before .before .before .before .before .pre .0 .limited) .blocks-high))
     (λ c. omega arith)
-    loop-again
+    (λ c. (omega arith, c .with-block .ensures .0, c .with-block .ensures .1))
     returns)

@@ -55,20 +55,11 @@ passed : (c : tie.Else2 Inv-loop μ-loop)
     → (eqb (c .before .before .loop .named) (c .before .before .before .before .before .before .before .args .names) ≡ true) × (c .before .before .loop .shaped ≡ true)
 passed c = none-fails (eqb (c .before .before .loop .named) (c .before .before .before .before .before .before .before .args .names)) (c .before .before .loop .shaped) (c .if2 .left)
 
-loop-holds : tie.Need-loop-holds Inv-loop μ-loop
-loop-holds c = (omega arith, judge-start)
-
 -- a chip is one of at most seven
 seven : (c : tie.In-loop Inv-loop μ-loop) → c .before .loop .c < 7
 seven c =
     let s = c .before .before .before .before .before .before in
     omega (arith, within (layoutOf (s .args .g)) (s .pre .0 .limited) .members-high)
-
-mul-scan : tie.Need-mul-scan Inv-loop μ-loop
-mul-scan c = omega (arith, seven (c .before))
-
-array-copy-out-scan : tie.Need-array-copy-out-scan Inv-loop μ-loop
-array-copy-out-scan c = seven (c .before)
 
 add-named : tie.Need-add-named Inv-loop μ-loop
 add-named c =
@@ -85,9 +76,6 @@ add-c : tie.Need-add-c Inv-loop μ-loop
 add-c c =
     let s = c .before .before .before .before .before .before .before in
     omega (arith, within (layoutOf (s .args .g)) (s .pre .0 .limited) .members-high)
-
-loop-less : tie.Need-loop-less Inv-loop μ-loop
-loop-less c = omega arith
 
 loop-again : tie.Need-loop-again Inv-loop μ-loop
 loop-again c =
@@ -128,12 +116,12 @@ spares-pass-spec =
     (tie.spec
     Inv-loop
     μ-loop
-    loop-holds
-    mul-scan
-    array-copy-out-scan
+    (λ c. (omega arith, judge-start))
+    (λ c. omega (arith, seven (c .before)))
+    (λ c. seven (c .before))
     add-named
     add-c
-    loop-less
+    (λ c. omega arith)
     loop-again
     returns
     returns-2

@@ -5,25 +5,10 @@ use borrow.Author.Needs.{needs}
 use Rattle.vazhettu.proofs.vazhettu_write.Statement.{statement}
 use Rattle.vazhettu.proofs.vazhettu_write.Tie as tie
 
-write-requires : tie.Need-write-requires
-write-requires c κs = search needs
-
-report-of-requires : tie.Need-report-of-requires
-report-of-requires c κs = search needs
-
-same-length : tie.Need-same-length
-same-length c = search needs
-
-same-length-2 : tie.Need-same-length-2
-same-length-2 c = search needs
-
-same-length-3 : tie.Need-same-length-3
-same-length-3 c = search needs
-
 returns : tie.Need-returns
 returns c = rw (c .report-of .ensures) (ap reportedOf (c .before .before .before .before .before .before .before .write .ensures))
 
 pub vazhettu-write-spec : {M : Type 1} → statement M
 vazhettu-write-spec =
     tie.close
-    (tie.spec write-requires report-of-requires same-length same-length-2 same-length-3 returns)
+    (tie.spec (λ c κs. search needs) (λ c κs. search needs) (λ c. search needs) (λ c. search needs) (λ c. search needs) returns)

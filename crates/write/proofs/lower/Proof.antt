@@ -10,8 +10,5 @@ returns c = rw (c .before .before .free .given .1, lt-ltb (c .before .before .fr
 returns-2 : tie.Need-returns-2
 returns-2 c = rw (c .before .before .free .given .1, le-ltb (c .before .before .free .given .0 .0) (c .before .before .before .before .args .t) (c .if1 .left))
 
-returns-3 : tie.Need-returns-3
-returns-3 c = rw (c .enum-told .given .1)
-
 pub lower-spec : {M : Type 1} → statement M
-lower-spec = tie.close (tie.spec (λ c. search needs) (λ c. search needs) returns returns-2 returns-3)
+lower-spec = tie.close (tie.spec (λ c. search needs) (λ c. search needs) returns returns-2 (λ c. rw (c .enum-told .given .1)))

@@ -49,18 +49,6 @@ loop-holds c =
     let a = c .before .args in
     (omega arith, sym (count-start (has (a .g) (a .records .now) (a .stripes .now) (a .fields .now) (a .b * a .g .k))))
 
-mul-has-number : tie.Need-mul-has-number Inv-loop μ-loop
-mul-has-number c = omega (arith, places c)
-
-element-copy-out-has-number : tie.Need-element-copy-out-has-number Inv-loop μ-loop
-element-copy-out-has-number c = places c
-
-mul-has-number-2 : tie.Need-mul-has-number-2 Inv-loop μ-loop
-mul-has-number-2 c = omega (arith, places (c .before))
-
-element-copy-out-has-number-2 : tie.Need-element-copy-out-has-number-2 Inv-loop μ-loop
-element-copy-out-has-number-2 c = places (c .before)
-
 add-has-number : tie.Need-add-has-number Inv-loop μ-loop
 add-has-number c =
     let s = c .before .before .before .before .before in
@@ -76,12 +64,6 @@ add-named c =
     let a = c .before .before .before .before .before .before .before .args in
     let o = c .before .before .before .before .before .loop in
     omega (arith, o .inv .1, count-le (o .i) (has (a .g) (a .records .now) (a .stripes .now) (a .fields .now) (a .b * a .g .k)), places (c .before .before .before .before))
-
-add-i : tie.Need-add-i Inv-loop μ-loop
-add-i c = omega (arith, places (c .before .before .before .before))
-
-loop-less : tie.Need-loop-less Inv-loop μ-loop
-loop-less c = omega arith
 
 loop-again : tie.Need-loop-again Inv-loop μ-loop
 loop-again c =
@@ -116,14 +98,14 @@ count-named-spec =
     μ-loop
     mul-first
     loop-holds
-    mul-has-number
-    element-copy-out-has-number
-    mul-has-number-2
-    element-copy-out-has-number-2
+    (λ c. omega (arith, places c))
+    (λ c. places c)
+    (λ c. omega (arith, places (c .before)))
+    (λ c. places (c .before))
     add-has-number
     has-number-requires
     add-named
-    add-i
-    loop-less
+    (λ c. omega (arith, places (c .before .before .before .before)))
+    (λ c. omega arith)
     loop-again
     returns)

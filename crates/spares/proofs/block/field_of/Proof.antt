@@ -20,20 +20,11 @@ cast-s c =
     let high = within (layoutOf (c .before .args .g)) (c .before .pre .0) .stripes-high in
     record { fits = omega arith }
 
-sub-parity : tie.Need-sub-parity
-sub-parity c = search needs
-
-rem-parity : tie.Need-rem-parity
-rem-parity c = search needs
-
 sub-parity-2 : tie.Need-sub-parity-2
 sub-parity-2 c =
     let s = c .before in
     let low : 0 < s .args .width = omega arith in
     omega (arith, mod-lt (s .args .j) low)
-
-sub-m : tie.Need-sub-m
-sub-m c = search needs
 
 -- the chip worked out is that of the parity
 parity : (s : tie.Start) → s .args .width - 1 - s .args .j % s .args .width ≡ parityChip (layoutOf (s .args .g)) (s .args .j)
@@ -54,9 +45,6 @@ member c =
     (λ w. (omega (arith, w .1), λ d. rw (lt-ltb (s .args .c) q (omega arith)) (w .1)))
     (λ w. (omega (arith, w .1), λ d. rw (le-ltb (s .args .c) q (omega arith)) (w .1)))
     (c .if1 .came)
-
-tag-of-requires-2 : tie.Need-tag-of-requires-2
-tag-of-requires-2 c κs = (omega arith, omega (arith, member (c .before) .0))
 
 -- so the tag and the field are those of the definition
 worked-out : (c : tie.Joined3)
@@ -95,14 +83,14 @@ field-of-spec =
     tie.close
     (tie.spec
     cast-s
-    sub-parity
-    rem-parity
+    (λ c. search needs)
+    (λ c. search needs)
     sub-parity-2
-    sub-m
+    (λ c. search needs)
     (λ c. search needs)
     (λ c κs. search needs)
     (λ c. search needs)
-    tag-of-requires-2
+    (λ c κs. (omega arith, omega (arith, member (c .before) .0)))
     (λ c. search needs)
     (λ c. search needs)
     returns

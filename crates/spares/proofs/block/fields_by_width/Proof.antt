@@ -29,35 +29,8 @@ cast-chip c =
     let few = within (layoutOf (c .args .g)) (c .pre .0) .members-high in
     record { fits = omega arith }
 
-loop-holds : tie.Need-loop-holds Inv-loop μ-loop
-loop-holds c = (omega arith, c .pre .3, fill-start)
-
-mul-field-of : tie.Need-mul-field-of Inv-loop μ-loop
-mul-field-of c = omega (arith, places c)
-
-element-copy-out-field-of : tie.Need-element-copy-out-field-of Inv-loop μ-loop
-element-copy-out-field-of c = places c
-
-mul-field-of-2 : tie.Need-mul-field-of-2 Inv-loop μ-loop
-mul-field-of-2 c = omega (arith, places (c .before))
-
-element-copy-out-field-of-2 : tie.Need-element-copy-out-field-of-2 Inv-loop μ-loop
-element-copy-out-field-of-2 c = places (c .before)
-
 field-of-requires : tie.Need-field-of-requires Inv-loop μ-loop
 field-of-requires c κs = let h = c .before .before .before .before .pre in (h .0, h .1, h .2)
-
-mul-fields : tie.Need-mul-fields Inv-loop μ-loop
-mul-fields c = omega (arith, places (c .before .before .before))
-
-element-write-fields : tie.Need-element-write-fields Inv-loop μ-loop
-element-write-fields c = places (c .before .before .before)
-
-add-i : tie.Need-add-i Inv-loop μ-loop
-add-i c = omega (arith, places (c .before .before .before))
-
-loop-less : tie.Need-loop-less Inv-loop μ-loop
-loop-less c = omega arith
 
 loop-again : tie.Need-loop-again Inv-loop μ-loop
 loop-again c =
@@ -77,15 +50,15 @@ fields-by-width-spec =
     Inv-loop
     μ-loop
     cast-chip
-    loop-holds
-    mul-field-of
-    element-copy-out-field-of
-    mul-field-of-2
-    element-copy-out-field-of-2
+    (λ c. (omega arith, c .pre .3, fill-start))
+    (λ c. omega (arith, places c))
+    (λ c. places c)
+    (λ c. omega (arith, places (c .before)))
+    (λ c. places (c .before))
     field-of-requires
-    mul-fields
-    element-write-fields
-    add-i
-    loop-less
+    (λ c. omega (arith, places (c .before .before .before)))
+    (λ c. places (c .before .before .before))
+    (λ c. omega (arith, places (c .before .before .before)))
+    (λ c. omega arith)
     loop-again
     returns)

@@ -27,21 +27,6 @@ loop-holds : tie.Need-loop-holds Inv-loop μ-loop
 unfolding allBelow
 loop-holds c = (omega arith, refl, refl)
 
-mul-is-clean-tag : tie.Need-mul-is-clean-tag Inv-loop μ-loop
-mul-is-clean-tag c = omega (arith, places c)
-
-element-copy-out-is-clean-tag : tie.Need-element-copy-out-is-clean-tag Inv-loop μ-loop
-element-copy-out-is-clean-tag c = places c
-
-is-clean-tag-requires : tie.Need-is-clean-tag-requires Inv-loop μ-loop
-is-clean-tag-requires c κs = search needs
-
-add-i : tie.Need-add-i Inv-loop μ-loop
-add-i c = omega (arith, places (c .before .before))
-
-loop-less : tie.Need-loop-less Inv-loop μ-loop
-loop-less c = omega arith
-
 loop-again : tie.Need-loop-again Inv-loop μ-loop
 unfolding allBelow
 loop-again c =
@@ -60,10 +45,10 @@ fill-of-spec =
     Inv-loop
     μ-loop
     loop-holds
-    mul-is-clean-tag
-    element-copy-out-is-clean-tag
-    is-clean-tag-requires
-    add-i
-    loop-less
+    (λ c. omega (arith, places c))
+    (λ c. places c)
+    (λ c κs. search needs)
+    (λ c. omega (arith, places (c .before .before)))
+    (λ c. omega arith)
     loop-again
     returns)

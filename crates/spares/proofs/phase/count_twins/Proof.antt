@@ -38,9 +38,6 @@ place c =
     let s = c .before .before .before .before in
     place-low (s .args .g) (s .pre .0 .chips-fit .limited) (s .args .d) (c .before .loop .i) (s .pre .2) (c .loop-test .taken)
 
-add-twin-place : tie.Need-add-twin-place Inv-loop μ-loop
-add-twin-place c = omega (arith, place c)
-
 twin-place-requires : tie.Need-twin-place-requires Inv-loop μ-loop
 twin-place-requires c κs = let h = c .before .before .before .before .pre in (h .0, h .1, place c .0)
 
@@ -53,18 +50,6 @@ found c =
     let e = sym (c .before .before .before .twin-place .ensures) ∙ c .before .found .given .1 in
     let low = twin-low _ _ _ _ _ _ _ e in
     (omega arith, omega (arith, twins-few _ _ _ _ _ (c .before .before .before .before .before .loop .inv .1) _ low))
-
-array-read-counts : tie.Need-array-read-counts Inv-loop μ-loop
-array-read-counts c = found c .0
-
-add-counts : tie.Need-add-counts Inv-loop μ-loop
-add-counts c = omega (arith, found c)
-
-array-write-counts : tie.Need-array-write-counts Inv-loop μ-loop
-array-write-counts c = found c .0
-
-add-i : tie.Need-add-i Inv-loop μ-loop
-add-i c = omega (arith, place (c .before .before))
 
 loop-again : tie.Need-loop-again Inv-loop μ-loop
 loop-again c =
@@ -91,14 +76,14 @@ count-twins-spec =
     μ-loop
     mul-first
     loop-holds
-    add-twin-place
+    (λ c. omega (arith, place c))
     twin-place-requires
     (λ c. search needs)
-    array-read-counts
-    add-counts
-    array-write-counts
+    (λ c. found c .0)
+    (λ c. omega (arith, found c))
+    (λ c. found c .0)
     (λ c. search needs)
-    add-i
+    (λ c. omega (arith, place (c .before .before)))
     (λ c. omega arith)
     loop-again
     returns)

@@ -36,18 +36,6 @@ place c =
     let s = c .before .before .before .before in
     place-low (s .args .g) (s .pre .0 .chips-fit .limited) (s .args .d) (c .before .loop .i) (s .pre .1) (c .loop-test .taken)
 
-add-named-at : tie.Need-add-named-at Inv-loop μ-loop
-add-named-at c = omega (arith, place c)
-
-named-at-requires : tie.Need-named-at-requires Inv-loop μ-loop
-named-at-requires c κs = (c .before .before .before .before .pre .0, place c .0)
-
-add-i : tie.Need-add-i Inv-loop μ-loop
-add-i c = omega arith
-
-loop-less : tie.Need-loop-less Inv-loop μ-loop
-loop-less c = omega arith
-
 loop-again : tie.Need-loop-again Inv-loop μ-loop
 unfolding allBelow
 loop-again c = (omega arith, rw (add-one, c .before .before .loop .inv .1, c .named-at .ensures))
@@ -66,9 +54,9 @@ phase1-passes-spec =
     μ-loop
     mul-first
     loop-holds
-    add-named-at
-    named-at-requires
-    add-i
-    loop-less
+    (λ c. omega (arith, place c))
+    (λ c κs. (c .before .before .before .before .pre .0, place c .0))
+    (λ c. omega arith)
+    (λ c. omega arith)
     loop-again
     returns)

@@ -45,12 +45,6 @@ loop-holds : tie.Need-loop-holds Inv-loop μ-loop
 unfolding allBelow
 loop-holds c = (omega arith, refl)
 
-named-at-requires : tie.Need-named-at-requires Inv-loop μ-loop
-named-at-requires c κs = (c .before .before .before .before .before .pre .0, place c .0)
-
-array-read-copied : tie.Need-array-read-copied Inv-loop μ-loop
-array-read-copied c = few (c .before)
-
 loop-again : tie.Need-loop-again Inv-loop μ-loop
 unfolding allBelow
 loop-again c =
@@ -74,8 +68,8 @@ phase2-passes-spec =
     (λ c κs. search needs)
     loop-holds
     (λ c. omega (arith, place c))
-    named-at-requires
-    array-read-copied
+    (λ c κs. (c .before .before .before .before .before .pre .0, place c .0))
+    (λ c. few (c .before))
     (λ c. omega arith)
     (λ c. omega arith)
     loop-again
