@@ -1,9 +1,9 @@
 -- A record in the bytes of the image: its six current and six old numbers, and the fields behind them.
 use Prim.Native.Nat.{ℕ, zero, suc, _+_, _*_, _≤_, _<_}
-use native.Mathlib.Nat.{add-zero, add-assoc, mod-eq-of-lt}
+use native.Mathlib.Nat.{add-zero, mod-eq-of-lt}
 use native.Mathlib.Decide.{decLt}
 use native.Mathlib.Omega.{arith}
-use mathlib.Core.Path.{_≡_, refl, _∙_, fun-ext}
+use mathlib.Core.Path.{_≡_, refl, sym, _∙_, fun-ext}
 use mathlib.Core.List.{List, [], _∷_}
 use lib.ListN.{length, getD, set, take, drop}
 use lib.Seq.{drop-drop, getD-set-same, getD-set-other}
@@ -16,12 +16,12 @@ use Rattle.bytes.proofs.Units.{part-unit, getD-unit}
 use Rattle.ranges.proofs.Updates.{at-unique}
 use Rattle.layout.specs.declared.Geometry.{Geometry}
 use Rattle.layout.specs.Layout.{Layout, layoutOf}
-use Rattle.layout.specs.Record.{row, sixFrom, recordOf, bytesOfRecord, recordAt}
+use Rattle.layout.specs.Record.{Record, row, sixFrom, recordOf, bytesOfRecord, recordAt}
 use Rattle.layout.specs.Collection.{bytesOfCollection}
 use Rattle.codec.specs.declared.StripeRecord.{StripeRecord}
 use Rattle.codec.specs.declared.CollectionRecord.{CollectionRecord}
 use Rattle.codec.specs.declared.Spare.{Spare}
-use Rattle.codec.specs.Views.{sixOf, recordFrom, collectionFrom, spareFrom, sixAt, SmallRecord, SmallSpare}
+use Rattle.codec.specs.Views.{sixOf, recordFrom, ended, collectionFrom, spareFrom, sixAt, SmallRecord, SmallSpare}
 use Rattle.codec.proofs.Fills.{laid, joined, laid-whole}
 
 -- ---- six numbers
@@ -72,7 +72,7 @@ number-halves [] = refl
 number-halves (x ∷ []) = omega arith
 number-halves (x ∷ y ∷ xs) = omega arith
 
-number-four : (a : ℕ) (xs : List ℕ) → number (part a 4 xs) ≡ number (part a 2 xs) + 65536 * number (part (a + 2) 2 xs)
+pub number-four : (a : ℕ) (xs : List ℕ) → number (part a 4 xs) ≡ number (part a 2 xs) + 65536 * number (part (a + 2) 2 xs)
 unfolding part
 number-four a xs = rw (number-halves (drop a xs), drop-drop)
 
@@ -85,20 +85,35 @@ recordIn xs a =
       parity = number (part (a + 24) 2 xs);
       bitmap = getD xs (a + 26) 0;
       slot = getD xs (a + 27) 0;
-      rest = number (part (a + 28) 2 xs) + 65536 * number (part (a + 30) 2 xs);
     }
 
 -- the bytes at the offset of record j hold it
-pub record-in : (g : Geometry) (xs : List ℕ) (j : ℕ) → j < g .s → recordFrom (layoutOf g) (recordIn xs (j * 32)) ≡ recordAt (layoutOf g) xs j
-unfolding recordFrom recordAt recordOf
+pub record-in : (g : Geometry) (xs : List ℕ) (j : ℕ) → j < g .s → recordFrom (layoutOf g) (recordIn xs (j * 32)) ≡ ended (recordAt (layoutOf g) xs j)
+unfolding recordFrom ended recordAt recordOf
 record-in g xs j h =
     let current = six-of-record g j 0 xs (omega arith) in
     let old = six-of-record g j 6 xs (omega arith) in
     let parity = part-unit 32 j 24 2 xs (omega arith) in
     let bitmap = getD-unit 32 j 26 0 xs (omega arith) in
     let slot = getD-unit 32 j 27 0 xs (omega arith) in
-    let rest = part-unit 32 j 28 4 xs (omega arith) in
-    rw (lt-ltb j (g .s) h, ← current, ← old, parity, bitmap, slot, rest, number-four (j * 32 + 28) xs, add-assoc (j * 32) 28 2, add-zero)
+    rw (lt-ltb j (g .s) h, ← current, ← old, parity, bitmap, slot, add-zero)
+
+-- so do the four behind them
+pub rest-in : (g : Geometry) (xs : List ℕ) (j : ℕ) → j < g .s → recordAt (layoutOf g) xs j .rest ≡ number (part (j * 32 + 28) 4 xs)
+unfolding recordAt recordOf
+rest-in g xs j h = rw (lt-ltb j (g .s) h, part-unit 32 j 28 4 xs (omega arith))
+
+-- a record that ends in zeros
+pub ended-same : {r : Record} → r .rest ≡ 0 → ended r ≡ r
+unfolding ended
+ended-same {r} e = λ i. record {
+  current = r .current;
+  old = r .old;
+  parity = r .parity;
+  bitmap = r .bitmap;
+  slot = r .slot;
+  rest = sym e i;
+}
 
 -- number m of six
 pub six-in : (l : Layout) (xs : List ℕ) (m : ℕ) → m < 6 → sixOf l xs m ≡ getD xs m 0
@@ -141,11 +156,11 @@ collection-laid g co d long phase chip =
 pub record-laid : (g : Geometry) (e : StripeRecord) (d : List ℕ) → length d ≡ 32 → SmallRecord e
     → laid 0
     (row 2 (λ (m : ℕ). getD (e .current) m 0) 6 ∷ row 2 (λ (m : ℕ). getD (e .old) m 0) 6 ∷ digits 2 (e .parity) ∷ digits 1 (e .bitmap) ∷ digits 1 (e .slot)
-    ∷ digits 4 (e .rest) ∷ []) d
+    ∷ digits 4 0 ∷ []) d
     ≡ bytesOfRecord (layoutOf g) (recordFrom (layoutOf g) e)
 unfolding bytesOfRecord recordFrom sixOf row joined digits
 record-laid g e d long s =
     laid-whole
     (row 2 (λ (m : ℕ). getD (e .current) m 0) 6 ∷ row 2 (λ (m : ℕ). getD (e .old) m 0) 6 ∷ digits 2 (e .parity) ∷ digits 1 (e .bitmap) ∷ digits 1 (e .slot)
-    ∷ digits 4 (e .rest) ∷ []) d long
+    ∷ digits 4 0 ∷ []) d long
     ∙ (rw (mod-eq-of-lt (s .bitmap), mod-eq-of-lt (s .slot)))

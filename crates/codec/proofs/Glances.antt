@@ -2,7 +2,7 @@
 use Prim.Native.Nat.{ℕ, _+_, _-_, _*_, _/_, _%_, _≤_, _<_}
 use native.Mathlib.Nat.{add-assoc}
 use native.Mathlib.Omega.{arith}
-use mathlib.Core.Path.{_≡_, ap, _∙_}
+use mathlib.Core.Path.{_≡_, refl, ap, _∙_}
 use mathlib.Core.Logic.{_≢_}
 use mathlib.Core.Bool.{Bool, true, false, not, cond, _&&_, _||_, and-true, and-false, or-false}
 use mathlib.Core.List.{List, [], _∷_}
@@ -14,6 +14,8 @@ use Rattle.ranges.proofs.Looks.{by-order, by-same, all-at, all-true}
 use Rattle.ranges.proofs.Counts.{count-fail, count-cong, count-zero, count-all, count-positive}
 use Rattle.ranges.proofs.Tallies.{same-tests, count-from}
 use Rattle.ranges.proofs.Tests.{chain, chain-all, under, unless-equal}
+use Rattle.bytes.specs.Number.{number}
+use Rattle.bytes.specs.Units.{part}
 use Rattle.bytes.proofs.Lists.{number-two}
 use Rattle.layout.specs.declared.Geometry.{Geometry}
 use Rattle.layout.specs.Layout.{layoutOf, limits, none}
@@ -24,7 +26,7 @@ use Rattle.codec.specs.Fit.{RecordsFit}
 use Rattle.codec.specs.Views.{sixAt, recordFrom}
 use Rattle.codec.specs.declared.StripeRecord.{StripeRecord}
 use Rattle.codec.proofs.Sizes.{bounded}
-use Rattle.codec.proofs.Encodings.{six-is, six-in, six-number, recordIn, record-in}
+use Rattle.codec.proofs.Encodings.{six-is, six-in, six-number, number-four, recordIn, record-in, rest-in, ended-same}
 use Rattle.codec.specs.Scan.{Ranges, WordAt, currentGiven, Plain, Glanced, numberAt, numberIn, isWritten, writtenIn}
 
 -- ---- a record with nothing in the partial parity, as the code reads it
@@ -40,7 +42,6 @@ record Bare (g : Geometry) (e : StripeRecord) : Type 0 where
   parity : e .parity ≢ 65535 → e .parity < g .b * g .k
   bitmap : e .bitmap ≡ 0
   slot : e .slot ≡ 255
-  rest : e .rest ≡ 0
 
 bare-plain : {g : Geometry} {e : StripeRecord} → Bare g e
     → Plain (layoutOf g) (recordFrom (layoutOf g) e) (countBelow 6 (given (e .current)) + cond (eqb (e .parity) 65535) 0 1)
@@ -53,7 +54,7 @@ bare-plain {g} {e} b =
       parity = b .parity;
       bitmap = b .bitmap;
       slot = b .slot;
-      rest = b .rest;
+      rest = refl;
       counted = rw (count-cong 6 (given (e .current)) (currentGiven l (recordFrom l e)) (λ m h. rw (six-in l (e .current) m h)));
     }
 
@@ -189,8 +190,11 @@ module _ {g : Geometry} {xs tops : List ℕ} {a : ℕ} (k : Looked g xs tops a) 
         parity = rw parity at low;
         bitmap = omega (arith, k .bytes (a + 26), k .bytes (a + 27));
         slot = omega (arith, k .bytes (a + 26), k .bytes (a + 27));
-        rest = rw (← add-assoc a 24 4, ← add-assoc a 24 6) (omega arith);
       }
+
+  -- and ends in zeros
+  no-rest : {last : ℕ} → WordAt xs (a + 24) last → last / 65536 ≡ 65280 → number (part (a + 28) 4 xs) ≡ 0
+  no-rest word ends = rw (number-four (a + 28) xs, add-assoc a 28 2, ← add-assoc a 24 4, ← add-assoc a 24 6) (omega arith)
 
 -- ---- the tests
 
@@ -223,14 +227,16 @@ module _ {g : Geometry} {xs tops : List ℕ} {j olds last : ℕ} (fit : RecordsF
       let h = chain-all lows (otherTests g olds last lows names) e in
       let k : Looked g xs tops (j * 32) =
       record { limited = fit .limited; ranges = ranges; long = omega (arith, fit .long); bytes = bytes; lows = h .0 } in
+      let ends = eqb-true (last / 65536) 65280 (h .1 .1 .0) in
       let b = bare k
       (rw (eqb-true olds 18446744073709551615 (h .1 .0)) at old-word)
       word
-      (eqb-true (last / 65536) 65280 (h .1 .1 .0))
+      ends
       (parity-low p (g .b * g .k) (h .1 .1 .1 .0))
       (no-parity p names (h .1 .1 .1 .1 .0)) in
       let parity : p ≡ numberAt xs (j * 32 + 24) = omega arith in
-      rw (← record-in g xs j stripe, counts k, parity) (bare-plain b)
+      let is = record-in g xs j stripe ∙ ended-same (rest-in g xs j stripe ∙ no-rest k word ends) in
+      rw (← is, counts k, parity) (bare-plain b)
 
   -- so it is where all members are written and the parity page is there
   pub full : eqb olds 18446744073709551615 && eqb (last / 65536) 65280 && ltb (last % 65536) (g .b * g .k)

@@ -20,7 +20,7 @@ module _ (l : Layout) where
   unfoldable pub sixOf : List ℕ → ℕ → ℕ
   sixOf xs m = cond (ltb m 6) (getD xs m 0) (none l)
 
-  -- the record that the code's struct stands for
+  -- the record that the code's struct stands for; the bytes after it are 0
   unfoldable pub recordFrom : StripeRecord → Record
   recordFrom e =
       record {
@@ -29,8 +29,12 @@ module _ (l : Layout) where
         parity = e .parity;
         bitmap = e .bitmap;
         slot = e .slot;
-        rest = e .rest;
+        rest = 0;
       }
+
+-- a record, ended by zeros
+unfoldable pub ended : Record → Record
+ended r = record { current = r .current; old = r .old; parity = r .parity; bitmap = r .bitmap; slot = r .slot; rest = 0 }
 
 -- the collection record that the code's struct stands for; the bytes after it are 0
 abbrev pub collectionFrom : CollectionRecord → Collection
@@ -81,7 +85,6 @@ pub record SmallRecord (e : StripeRecord) : Type 0 where
   pub parity : e .parity < 65536
   pub bitmap : e .bitmap < 256
   pub slot : e .slot < 256
-  pub rest : e .rest < 4294967296
 
 -- the fields of a spare are in the range of their bytes
 pub record SmallSpare (t : Spare) : Type 0 where

@@ -21,7 +21,7 @@ ghost use Rattle.layout.specs.Record.{recordAt};
 ghost use Rattle.layout.specs.Collection.{collectionAt};
 ghost use Rattle.layout.specs.Images.{slotAt, chipsLength};
 ghost use Rattle.codec.specs.Fit.{ChipsFit, RecordsFit, SlotsFit};
-ghost use Rattle.codec.specs.Views.{recordFrom, spareOf, sixAt, SmallRecord, SmallSpare, CollectionIs};
+ghost use Rattle.codec.specs.Views.{recordFrom, ended, spareOf, sixAt, SmallRecord, SmallSpare, CollectionIs};
 
 // The bytes of a page number, and the number of no page.
 pub const WIDTH: usize = 2;
@@ -42,7 +42,6 @@ const REST_AT: usize = SLOT_AT + 1;
 
 const REST_BYTES: usize = RECORD_BYTES - REST_AT;
 
-const LAST_AT: usize = REST_AT + 2;
 // Where the zeros of the collection record begin, and how many they are.
 const ZEROS_AT: usize = 6;
 
@@ -62,15 +61,13 @@ pub const DATA: usize = 68;
 
 pub const PARITY: usize = 80;
 
-// The record of a stripe.
+// The record of a stripe, but for the zeros behind it.
 pub struct StripeRecord {
     pub current: [usize; 6],
     pub old: [usize; 6],
     pub parity: usize,
     pub bitmap: usize,
     pub slot: usize,
-    // the last four bytes, as one number
-    pub rest: usize,
 }
 
 // The collection record, but for the zeros behind it.
@@ -191,10 +188,10 @@ fn six_at(s: &[u8], a: usize) -> [usize; 6]
     ]
 }
 
-// The record of stripe j.
+// The record of stripe j, but for the zeros behind it.
 pub fn record_at(records: &[u8], g: Geometry, j: usize) -> StripeRecord
     requires { ⌜ RecordsFit g (now records) × (j < g .s) ⌝ }
-    ensures { λ r. ⌜ (recordFrom (layoutOf g) r ≡ recordAt (layoutOf g) (now (records .entry)) j) × SmallRecord r ⌝ }
+    ensures { λ r. ⌜ (recordFrom (layoutOf g) r ≡ ended (recordAt (layoutOf g) (now (records .entry)) j)) × SmallRecord r ⌝ }
 {
     let a = j * RECORD_BYTES;
     StripeRecord {
@@ -203,8 +200,17 @@ pub fn record_at(records: &[u8], g: Geometry, j: usize) -> StripeRecord
         parity: number_at(records, a + PARITY_AT),
         bitmap: byte(records, a + BITMAP_AT),
         slot: byte(records, a + SLOT_AT),
-        rest: number_at(records, a + REST_AT) + 65536 * number_at(records, a + LAST_AT),
     }
+}
+
+// Whether the bytes behind the record of stripe j are zeros.
+pub fn record_ends(records: &[u8], g: Geometry, j: usize) -> bool
+    requires { ⌜ RecordsFit g (now records) × (j < g .s) ⌝ }
+    ensures { λ r. ⌜ r ≡ eqb (recordAt (layoutOf g) (now (records .entry)) j .rest) 0 ⌝ }
+{
+    let a = j * RECORD_BYTES + REST_AT;
+    let e = a + REST_BYTES;
+    zeros(&records[a..e])
 }
 
 // The slot of stripe j.

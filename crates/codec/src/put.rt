@@ -81,7 +81,7 @@ fn fill_record(dst: &mut [u8], e: StripeRecord)
     put_number(dst, PARITY_AT, WIDTH, e.parity);
     put_number(dst, BITMAP_AT, 1, e.bitmap);
     put_number(dst, SLOT_AT, 1, e.slot);
-    put_number(dst, REST_AT, REST_BYTES, e.rest);
+    put_number(dst, REST_AT, REST_BYTES, 0);
 }
 
 // The bytes of a collection record.

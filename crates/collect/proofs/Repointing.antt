@@ -21,7 +21,7 @@ moved-small p q x hx hq = by-test (eqb x p) (λ e. rw e hq) (λ e. rw e hx)
 module _ (l : Layout) (e : StripeRecord) (c j p q : ℕ) (small : SmallRecord e) (fits : q < 65536) where
   -- on the chip of the parity
   abbrev withParity : ℕ → StripeRecord
-  withParity v = record { current = e .current; old = e .old; parity = v; bitmap = e .bitmap; slot = e .slot; rest = e .rest }
+  withParity v = record { current = e .current; old = e .old; parity = v; bitmap = e .bitmap; slot = e .slot }
 
   pub parity-moved : c ≡ parityChip l j → (v : ℕ) → v ≡ moved p q (e .parity)
       → (recordFrom l (withParity v) ≡ repointed l c j p q (recordFrom l e)) × SmallRecord (withParity v)
@@ -34,7 +34,6 @@ module _ (l : Layout) (e : StripeRecord) (c j p q : ℕ) (small : SmallRecord e)
       parity = rw is (moved-small p q (e .parity) (small .parity) fits);
       bitmap = small .bitmap;
       slot = small .slot;
-      rest = small .rest;
     },
   )
 
@@ -46,7 +45,6 @@ module _ (l : Layout) (e : StripeRecord) (c j p q : ℕ) (small : SmallRecord e)
     parity = e .parity;
     bitmap = e .bitmap;
     slot = e .slot;
-    rest = e .rest;
   }
 
   pub member-moved : c ≢ parityChip l j → (m v w : ℕ) → m ≡ memberOn l j c → m < 6 → length (e .current) ≡ 6 → length (e .old) ≡ 6
@@ -70,6 +68,5 @@ module _ (l : Layout) (e : StripeRecord) (c j p q : ℕ) (small : SmallRecord e)
       parity = small .parity;
       bitmap = small .bitmap;
       slot = small .slot;
-      rest = small .rest;
     },
   )

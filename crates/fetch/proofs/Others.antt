@@ -1,7 +1,7 @@
--- The page numbers of the other members, from the code's struct, and that a sound record's are those of pages.
+-- A sound record from the code's struct; the page numbers of the other members, and that a sound record's are those of pages.
 use Prim.Native.Nat.{ℕ, _≤_, _<_}
 use native.Mathlib.Omega.{arith}
-use mathlib.Core.Path.{_≡_, refl, fun-ext}
+use mathlib.Core.Path.{_≡_, refl, _∙_, fun-ext}
 use mathlib.Core.Logic.{_≢_}
 use mathlib.Core.Bool.{Bool, true, false, not, cond, _&&_}
 use mathlib.Core.List.{List}
@@ -13,21 +13,29 @@ use Rattle.ranges.proofs.Looks.{both, by-order, by-same}
 use Rattle.ranges.proofs.Tests.{cond-same}
 use Rattle.layout.specs.declared.Geometry.{Geometry}
 use Rattle.layout.specs.Layout.{Layout, layoutOf, none}
-use Rattle.layout.specs.Record.{Record, bit}
+use Rattle.layout.specs.Record.{Record, bit, recordAt}
 use Rattle.layout.proofs.Limits.{Within}
 use Rattle.layout.proofs.Bits.{testBit}
 use Rattle.layout.proofs.Records.{bits-of-none}
 use Rattle.rules.specs.declared.Role.{Role}
 use Rattle.rules.specs.declared.Role.the-variants.{Current, Old, Parity}
 use Rattle.rules.specs.Fetch.{numberIn, underParity, othersInside, othersUnderParity}
+use Rattle.rules.specs.Sound.{recordSound}
 use Rattle.rules.proofs.Soundness.Statements.{Numbered, RecordSound, sound-member}
+use Rattle.rules.proofs.Soundness.RecordChecks.{record-sound}
 use Rattle.rules.proofs.Data.Parity.{numbered-under-parity, numbered-others-inside, numbered-others-under-parity}
 use Rattle.codec.specs.declared.StripeRecord.{StripeRecord}
-use Rattle.codec.specs.Views.{sixOf, recordFrom}
+use Rattle.codec.specs.Views.{sixOf, recordFrom, ended, SmallRecord}
 use Rattle.fetch.specs.Into.{RoleFits}
 use Rattle.fetch.specs.Numbers.{NumbersFit}
-use Rattle.codec.proofs.Encodings.{six-in}
+use Rattle.codec.proofs.Encodings.{six-in, ended-same}
 use Rattle.fetch.proofs.Pages.{six-beyond}
+
+-- a sound record ends in zeros, so that it is what was read of it
+pub record-is : (g : Geometry) (xs : List ℕ) (j : ℕ) {e : StripeRecord}
+    → let r = recordAt (layoutOf g) xs j in
+    (recordFrom (layoutOf g) e ≡ ended r) × SmallRecord e → recordSound (layoutOf g) r ≡ true → recordFrom (layoutOf g) e ≡ r
+record-is g xs j (is, small) h = is ∙ ended-same (record-sound (layoutOf g) (recordAt (layoutOf g) xs j) h .rest)
 
 -- ---- numbers from the struct
 

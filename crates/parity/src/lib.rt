@@ -98,7 +98,6 @@ fn committed(e: StripeRecord, q: usize) -> StripeRecord
         parity: q,
         bitmap: 0,
         slot: 255,
-        rest: 0,
     }
 }
 

@@ -31,7 +31,6 @@ module _ (e : StripeRecord) (m q i : ℕ) (small : SmallRecord e) (low : m < 6) 
     parity = e .parity;
     bitmap = bitOr (e .bitmap) (1 * 2 ^ m % 18446744073709551616);
     slot = i;
-    rest = 0;
   }
 
   small-page : (olds : List ℕ) → ((k : ℕ) → getD olds k 0 < 65536) → SmallRecord (withPage olds)
@@ -41,7 +40,6 @@ module _ (e : StripeRecord) (m q i : ℕ) (small : SmallRecord e) (low : m < 6) 
     parity = small .parity;
     bitmap = rw (shifted m low) (set-bound (e .bitmap) m 8 (small .bitmap) (omega arith));
     slot = slot;
-    rest = omega arith;
   }
 
   abbrev Written : List ℕ → Type 0

@@ -74,7 +74,6 @@ fn written(e: StripeRecord, m: usize, q: usize, i: usize) -> StripeRecord
     next.current[m] = q;
     next.bitmap = e.bitmap | (1 << m);
     next.slot = i;
-    next.rest = 0;
     next
 }
 

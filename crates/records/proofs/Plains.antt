@@ -1,10 +1,11 @@
--- A record with nothing in the partial parity: that it is sound, how many page numbers it has, and how many on the lost chip.
+-- The soundness of a record. Of one with nothing in the partial parity: that it is sound, how many page numbers it has, and how many on the
+-- lost chip.
 use Prim.Native.Nat.{ℕ, _+_, _-_, _^_, _≤_, _<_}
 use native.Mathlib.Nat.{add-zero}
 use native.Mathlib.Omega.{arith}
 use mathlib.Core.Path.{_≡_, refl}
-use mathlib.Core.Bool.{Bool, true, false, cond, or-true}
-use lib.Dec.{ltb}
+use mathlib.Core.Bool.{Bool, true, false, cond, _&&_, and-false, or-true}
+use lib.Dec.{ltb, eqb}
 use lib.Pow.{pow-pos}
 use borrow.Author.Tests.{lt-ltb, eq-eqb, ne-eqb}
 use Rattle.ranges.specs.Look.{countBelow}
@@ -13,14 +14,24 @@ use Rattle.ranges.proofs.Counts.{count-zero, count-le, count-less}
 use Rattle.ranges.proofs.Tallies.{count-from}
 use Rattle.ranges.proofs.Tests.{unless-equal-by}
 use Rattle.layout.specs.Layout.{Layout, none, isNone, pages}
-use Rattle.layout.specs.Record.{Record}
+use Rattle.layout.specs.Record.{Record, bit}
 use Rattle.layout.specs.Rotation.{parityChip, memberOn}
 use Rattle.layout.proofs.Records.{bits-of-none}
 use Rattle.layout.proofs.Rotations.{member-on-fits}
 use Rattle.rules.specs.Names.{mainNumber, sideNumber}
 use Rattle.rules.specs.Sound.{memberSound, recordSound}
 use Rattle.codec.specs.Scan.{currentGiven, Plain}
+use Rattle.codec.specs.Views.{ended}
 use Rattle.names.specs.Stamps.{hasOld, recordNames, namesOn}
+
+-- ---- any record
+
+-- it is sound where it ends in zeros and its fields are
+pub ended-sound : (l : Layout) (r : Record) → eqb (r .rest) 0 && recordSound l (ended r) ≡ recordSound l r
+unfolding recordSound memberSound bit ended
+ended-sound l r = by-test (eqb (r .rest) 0) (λ t. rw t) (λ t. rw (t, and-false))
+
+-- ---- one that is plain
 
 one-most : (b : Bool) → cond b 0 1 ≤ 1
 one-most true = omega arith

@@ -7,7 +7,7 @@ use mathlib.Core.Logic.{_≢_}
 use mathlib.Core.Bool.{Bool, true, false, not, cond, _&&_, and-true}
 use mathlib.Core.List.{List}
 use lib.ListN.{getD, set, replicate}
-use lib.Dec.{leb}
+use lib.Dec.{leb, eqb}
 use borrow.Author.Tests.{ne-eqb, leb-true}
 use Rattle.ranges.specs.Look.{allBelow, someBelow, countBelow, firstBelow, leastSoFar, foundIn}
 use Rattle.ranges.specs.declared.Least.{Least}
@@ -25,7 +25,7 @@ use Rattle.rules.specs.Sound.{ownSlot, soundAt, recordsSound, collectionSound}
 use Rattle.rules.specs.Costs.{recordCost, cheapest}
 use Rattle.rules.specs.Partial.{freeSlot, lowestFreeSlot}
 use Rattle.codec.specs.declared.StripeRecord.{StripeRecord}
-use Rattle.codec.specs.Views.{recordFrom, SmallRecord}
+use Rattle.codec.specs.Views.{recordFrom, ended, SmallRecord}
 use Rattle.names.specs.Stamps.{recordNames, namesLost, namesBelow, namesIn, namesKept}
 use Rattle.names.proofs.Totals.{on-few, chip-none, chip-more}
 use Rattle.codec.specs.declared.scan.Glance.{Glance}
@@ -133,18 +133,18 @@ module _ {g : Geometry} {r : ℕ → Record} {lost j : ℕ} {seen : List Bool} {
       }
 
   -- it is looked at in full
-  pub passed-next : {e : StripeRecord} {more x : ℕ} {next : Tally}
-      → (recordFrom (layoutOf g) e ≡ r j) × SmallRecord e
+  pub passed-next : {e : StripeRecord} {ends : Bool} {more x : ℕ} {next : Tally}
+      → (recordFrom (layoutOf g) e ≡ ended (r j)) × SmallRecord e → ends ≡ eqb (r j .rest) 0
       → ((g′ : Geometry) → more ≡ recordNames (layoutOf g′) (recordFrom (layoutOf g′) e)) × (more ≤ 13)
-      → Adds (layoutOf g) j e (getD seen (e .slot) false) t next → x ≡ namesLost (layoutOf g) r lost j
+      → Adds (layoutOf g) j e ends (getD seen (e .slot) false) t next → x ≡ namesLost (layoutOf g) r lost j
       → Passed g r lost (j + 1) (set seen (e .slot) true) next (names + more) (gone + x)
-  unfolding recordFrom
-  passed-next {e} (same, small) (m, most) a x =
+  unfolding recordFrom ended recordNames
+  passed-next {e} (same, small) zeros (m, most) a x =
       let s : e .slot ≡ r j .slot = ap (λ (x : Record). x .slot) same in
       let named = rw same at (m g) in
       let (away, less) = more-gone x named in
       record {
-        tally = a .adds r same
+        tally = a .adds r same zeros
             (λ has. rw (← s) (p .table .told (e .slot) (omega (arith, small .slot, differ (e .slot) 255 (rw (← s) at has)))))
             (p .tally);
         table = marks-more (p .table) s;

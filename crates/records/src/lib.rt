@@ -6,6 +6,7 @@ use codec::bit_of;
 use codec::collection_at;
 use codec::collection_ends;
 use codec::record_at;
+use codec::record_ends;
 use codec::scan::Glance;
 use codec::scan::glance_at;
 use codec::scan::ranges;
@@ -52,7 +53,7 @@ fn member_passes(g: Geometry, e: StripeRecord, m: usize) -> bool
         & ((no_old & (unwritten | bit)) | !(e.parity == NONE))
 }
 
-// Whether a record is sound by itself.
+// Whether a record is sound by itself, but for the zeros behind it.
 fn record_passes(g: Geometry, e: StripeRecord) -> bool
     requires { ⌜ limits (layoutOf g) ≡ true ⌝ }
     ensures { λ r. ⌜ r ≡ recordSound (layoutOf g) (recordFrom (layoutOf g) e) ⌝ }
@@ -71,11 +72,7 @@ fn record_passes(g: Geometry, e: StripeRecord) -> bool
     } else {
         e.slot <= most
     };
-    members
-        & ((e.parity == NONE) | (e.parity < pages))
-        & (e.bitmap < (1 << n))
-        & slot
-        & (e.rest == 0)
+    members & ((e.parity == NONE) | (e.parity < pages)) & (e.bitmap < (1 << n)) & slot
 }
 
 // How many page numbers a record has.
@@ -162,12 +159,12 @@ fn no_tally() -> Tally
     }
 }
 
-// The tally with record j; taken, where a record before it has its slot.
-fn with_record(g: Geometry, j: usize, e: StripeRecord, taken: bool, t: Tally) -> Tally
+// The tally with record j: whether it ends in zeros, and whether its slot is taken, by a record before it.
+fn with_record(g: Geometry, j: usize, e: StripeRecord, ends: bool, taken: bool, t: Tally) -> Tally
     requires { ⌜ (limits (layoutOf g) ≡ true) × (t .slotted < 65536) ⌝ }
-    ensures { λ n. ⌜ Adds (layoutOf g) j e taken t n ⌝ }
+    ensures { λ n. ⌜ Adds (layoutOf g) j e ends taken t n ⌝ }
 {
-    let sound = t.sound & record_passes(g, e);
+    let sound = t.sound & (ends & record_passes(g, e));
     let least = t.cheapest;
     if e.slot == 255 {
         return Tally {
@@ -240,8 +237,9 @@ pub fn scan_records(g: Geometry, records: &[u8], lost: usize) -> RecordsScan
             names += look.names;
         } else {
             let e = record_at(records, g, j);
+            let ends = record_ends(records, g, j);
             let slot = e.slot;
-            let next = with_record(g, j, e, seen[slot], tally);
+            let next = with_record(g, j, e, ends, seen[slot], tally);
             tally = next;
             seen[slot] = true;
             names += names_of(e);

@@ -1,5 +1,4 @@
 -- Record j is 32 bytes at j * 32, so every read is inside the records, and what the calls give is what the record's own bytes hold.
-use Prim.Native.Nat.{_+_, _*_}
 use native.Mathlib.Omega.{arith}
 use mathlib.Core.Path.{ap}
 use Rattle.layout.specs.Layout.{layoutOf}
@@ -11,23 +10,21 @@ use Rattle.codec.proofs.record_at.Tie as tie
 
 returns : tie.Need-returns
 returns c =
-    let a = c .before .before .before .before .before .before .before .before .args in
-    let known = record-in (a .g) (a .records .now) (a .j) (c .before .before .before .before .before .before .before .before .pre .1) in (
-      rw (← known) (ap (recordFrom (layoutOf (a .g))) (λ i. record {
-        current = c .before .before .before .before .before .before .six-at .ensures .0 i;
-        old = c .before .before .before .before .before .six-at2 .ensures .0 i;
-        parity = c .before .before .before .before .number-at .ensures .0 i;
-        bitmap = c .before .before .before .byte .ensures .0 i;
-        slot = c .before .before .byte2 .ensures .0 i;
-        rest = c .before .number-at2 .ensures .0 i + 65536 * c .number-at3 .ensures .0 i;
+    let s = c .before .before .before .before .before .before in
+    let a = s .args in (
+      rw (← record-in (a .g) (a .records .now) (a .j) (s .pre .1)) (ap (recordFrom (layoutOf (a .g))) (λ i. record {
+        current = c .before .before .before .before .six-at .ensures .0 i;
+        old = c .before .before .before .six-at2 .ensures .0 i;
+        parity = c .before .before .number-at .ensures .0 i;
+        bitmap = c .before .byte .ensures .0 i;
+        slot = c .byte2 .ensures .0 i;
       })),
       record {
-        current = c .before .before .before .before .before .before .six-at .ensures .1;
-        old = c .before .before .before .before .before .six-at2 .ensures .1;
-        parity = c .before .before .before .before .number-at .ensures .1;
-        bitmap = c .before .before .before .byte .ensures .1;
-        slot = c .before .before .byte2 .ensures .1;
-        rest = omega arith;
+        current = c .before .before .before .before .six-at .ensures .1;
+        old = c .before .before .before .six-at2 .ensures .1;
+        parity = c .before .before .number-at .ensures .1;
+        bitmap = c .before .byte .ensures .1;
+        slot = c .byte2 .ensures .1;
       },
     )
 
@@ -38,5 +35,4 @@ record-at-spec =
     (tie.spec
     (λ c. omega arith) (λ c κs. omega arith) (λ c. omega arith) (λ c κs. omega arith) (λ c. omega arith)
     (λ c κs. omega arith) (λ c. omega arith) (λ c κs. omega arith) (λ c. omega arith)
-    (λ c κs. omega arith) (λ c. omega arith) (λ c κs. omega arith) (λ c. omega arith)
-    (λ c κs. omega arith) (λ c. omega arith) (λ c. omega arith) returns)
+    (λ c κs. omega arith) returns)

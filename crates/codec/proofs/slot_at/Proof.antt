@@ -4,13 +4,13 @@ use mathlib.Core.Path.{ap, _∙_}
 use denote.Ref.{now}
 use Rattle.layout.specs.Record.{Record}
 use Rattle.layout.specs.Images.{recordsLength}
-use Rattle.codec.specs.Views.{recordFrom}
+use Rattle.codec.specs.Views.{recordFrom, ended}
 use Rattle.codec.proofs.Encodings.{record-in}
 use Rattle.codec.proofs.slot_at.Statement.{statement}
 use Rattle.codec.proofs.slot_at.Tie as tie
 
 returns : tie.Need-returns
-unfolding recordFrom
+unfolding recordFrom ended
 returns c =
     let s = c .before .before in
     let a = s .args in

@@ -10,6 +10,8 @@ use Rattle.layout.specs.Layout.{layoutOf, pages}
 use Rattle.rules.specs.Open.{repointed}
 use Rattle.steps.specs.Allowance.{images}
 use Rattle.steps.proofs.Allowances.{ran-none}
+use Rattle.codec.proofs.Encodings.{ended-same}
+use Rattle.names.proofs.Statements.{stripes}
 use Rattle.collect.proofs.Underway.{Working}
 use Rattle.collect.proofs.Dues.{pages-small}
 use Rattle.collect.proofs.Moves.{under-way, page-fits, no-move, due-stripe, one-move}
@@ -96,7 +98,8 @@ returns-2 c =
     let s = d .before .before .before .before .before in
     let a = s .args in
     let on = sym (d .is-due .ensures) ∙ not-false (d .is-due .result) (u .before .if1 .left) in
-    let new = n .repoint .ensures .0 ∙ ap (repointed (layoutOf (a .g)) (a .co .chip) (u .spare-at .result .stripe) (u .spare-at .result .copied) (a .co .destination * a .g .k + a .i)) (e .record-at .ensures .0) in
+    let is = e .record-at .ensures .0 ∙ ended-same (stripes (a .g) (now (a .chips)) (now (a .records)) (s .pre .0) .stripe (u .spare-at .result .stripe) (stripe-fits u) .rest) in
+    let new = n .repoint .ensures .0 ∙ ap (repointed (layoutOf (a .g)) (a .co .chip) (u .spare-at .result .stripe) (u .spare-at .result .copied) (a .co .destination * a .g .k + a .i)) is in
     λ zs.
     rw (one-move (a .g) (now (a .chips)) (now (a .records)) (s .pre .0) (a .co) (s .pre .1) (s .pre .2) (a .i) (s .pre .3) on (u .spare-at .result) (u .spare-at .ensures .0) (n .repoint .result) new zs)
     (c .before .before .store-record .ensures (now (a .chips)) zs)

@@ -19,9 +19,11 @@ use Rattle.steps.specs.Allowance.{images}
 use Rattle.rules.specs.declared.Role.{Role}
 use Rattle.rules.specs.Names.{roleOf, names}
 use Rattle.rules.specs.Fetch.{fetchRole}
+use Rattle.rules.specs.Sound.{recordSound}
 use Rattle.rules.proofs.Data.Contents.{pages-whole}
 use Rattle.codec.specs.declared.Spare.{Spare}
 use Rattle.codec.specs.Views.{recordFrom}
+use Rattle.fetch.proofs.Others.{record-is}
 use Rattle.fetch.proofs.Pages.{into-same}
 use Rattle.copying.proofs.Copies.{copy-ran, role-stands}
 use Rattle.copying.proofs.copy_page.Statement.{statement}
@@ -31,10 +33,29 @@ use Rattle.copying.proofs.copy_page.Tie as tie
 narrow : (s : tie.Start) → s .args .g .w ≤ 4096
 narrow s = within (layoutOf (s .args .g)) (s .pre .0 .limited) .bytes-high
 
+-- what the function was called with, and the record of the stripe on the page
+abbrev entry : tie.After-record-at → tie.Start
+entry c = c .before .before .before .before .before .before
+
+abbrev there : tie.After-record-at → Record
+there c = recordAt (layoutOf (entry c .args .g)) (now (entry c .args .records)) (c .before .spare-at .result .stripe)
+
+-- it is sound, so that it is what was read
+sound-there : (c : tie.After-record-at) → recordSound (layoutOf (entry c .args .g)) (there c) ≡ true
+sound-there c =
+    let a = entry c .args in
+    let l = layoutOf (a .g) in
+    subst (λ j. recordSound l (recordAt l (now (a .records)) j) ≡ true) (sym (ap (λ (t : Spare). t .stripe) (c .before .spare-at .ensures .0))) (entry c .pre .7 .sound)
+
+read-there : (c : tie.After-record-at) → recordFrom (layoutOf (entry c .args .g)) (c .record-at .result) ≡ there c
+read-there c =
+    let a = entry c .args in
+    record-is (a .g) (now (a .records)) (c .before .spare-at .result .stripe) (c .record-at .ensures) (sound-there c)
+
 fetch-requires : tie.Need-fetch-requires
 fetch-requires c κs =
     let s = c .before .before .before .before .before .before .before .before .before in
-    (s .pre .0, s .pre .2, front-long (s .args .g .w) 4096 (narrow s), c .before .before .role-of .ensures .1, rw (c .before .before .before .record-at .ensures .0, c .before .before .before .before .spare-at .ensures .0) (s .pre .7 .sound))
+    (s .pre .0, s .pre .2, front-long (s .args .g .w) 4096 (narrow s), c .before .before .role-of .ensures .1, rw (read-there (c .before .before .before)) (sound-there (c .before .before .before)))
 
 -- the page is as long as a page
 whole : (s : tie.Start) → length (pageAt (layoutOf (s .args .g)) (now (s .args .chips)) (s .args .c) (s .args .p) .bytes) ≡ s .args .g .w
@@ -59,7 +80,7 @@ held c =
     let (bytes, one) = role-stands l w (pageAt l (now (a .chips))) (slotAt l (now (a .slots))) r (a .c) (a .p) (spare .result .stripe) (omega (arith, s .pre .3)) (page-number l w (a .p) (s .pre .4)) names-it
     (into-same
     (ap (λ (q : Role). fetchRole l (pageAt l (now (a .chips))) (slotAt l (now (a .slots))) (spare .result .stripe) (recordFrom l (c .before .before .before .before .record-at .result)) noChip q) (c .before .before .before .role-of .ensures .0)
-    ∙ ap (λ (e : Record). fetchRole l (pageAt l (now (a .chips))) (slotAt l (now (a .slots))) (spare .result .stripe) e noChip (roleOf l (a .c) (spare .result .stripe) e (a .p))) (c .before .before .before .before .record-at .ensures .0))
+    ∙ ap (λ (e : Record). fetchRole l (pageAt l (now (a .chips))) (slotAt l (now (a .slots))) (spare .result .stripe) e noChip (roleOf l (a .c) (spare .result .stripe) e (a .p))) (read-there (c .before .before .before .before)))
     (front-zeros (a .g .w) 4096 (narrow s)) (c .fetch .ensures)) in
     (bytes ∙ xors-zeros-l (a .g .w) _ (omega (arith, whole s)), one)
 

@@ -14,6 +14,7 @@ use Rattle.rules.specs.declared.Role.the-variants.{Current}
 use Rattle.rules.specs.Fetch.{fetchRole, fetchIn}
 use Rattle.rules.proofs.Soundness.RecordChecks.{record-sound}
 use Rattle.fetch.proofs.Pages.{into-same}
+use Rattle.fetch.proofs.Others.{record-is}
 use Rattle.fetch.proofs.Whole.{read-is}
 use Rattle.fetch.proofs.read_member.Statement.{statement}
 use Rattle.fetch.proofs.read_member.Tie as tie
@@ -21,7 +22,7 @@ use Rattle.fetch.proofs.read_member.Tie as tie
 fetch-requires : tie.Need-fetch-requires
 fetch-requires c κs =
     let s = c .before .before .before .before .before .before .before .before .before .before in
-    (s .pre .0, s .pre .2, rw (c .before .before .before .before .fill .ensures, length-replicate) (s .pre .3), s .pre .5, rw (c .before .record-at .ensures .0) (s .pre .6))
+    (s .pre .0, s .pre .2, rw (c .before .before .before .before .fill .ensures, length-replicate) (s .pre .3), s .pre .5, rw (record-is (s .args .g) (now (s .args .records)) (s .args .j) (c .before .record-at .ensures) (s .pre .6)) (s .pre .6))
 
 returns : tie.Need-returns
 unfolding fetchIn
@@ -31,7 +32,7 @@ returns c =
     read-is l (within l (s .pre .0 .limited)) (images (now (s .args .chips)) (now (s .args .records)) (now (s .args .slots))) (s .pre .0 .long) (s .pre .2 .long) (s .args .lost) (s .args .j) (s .args .m) (s .pre .5)
     (record-sound l (recordAt l (now (s .args .records)) (s .args .j)) (s .pre .6))
     (into-same
-    (ap (λ (r : Record). fetchRole l (pageAt l (now (s .args .chips))) (slotAt l (now (s .args .slots))) (s .args .j) r (s .args .lost) (Current (s .args .m))) (c .before .before .before .before .record-at .ensures .0))
+    (ap (λ (r : Record). fetchRole l (pageAt l (now (s .args .chips))) (slotAt l (now (s .args .slots))) (s .args .j) r (s .args .lost) (Current (s .args .m))) (record-is (s .args .g) (now (s .args .records)) (s .args .j) (c .before .before .before .before .record-at .ensures) (s .pre .6)))
     (c .before .before .before .before .before .before .before .fill .ensures ∙ ap (λ (n : ℕ). replicate n 0) (s .pre .3))
     (c .before .before .fetch .ensures))
 

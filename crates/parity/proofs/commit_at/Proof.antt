@@ -12,6 +12,7 @@ use Rattle.steps.specs.Allowance.{images}
 use Rattle.steps.proofs.Allowances.{ran-append}
 use Rattle.codec.specs.Views.{recordFrom}
 use Rattle.bytes.proofs.Work.{front-long, front-back}
+use Rattle.fetch.proofs.Others.{record-is}
 use Rattle.parity.proofs.Committing.{commit-list}
 use Rattle.parity.proofs.commit_at.Statement.{statement}
 use Rattle.parity.proofs.commit_at.Tie as tie
@@ -24,7 +25,7 @@ new-parity-requires : tie.Need-new-parity-requires
 new-parity-requires c κs =
     let b = c .before .before in
     let s = b .before .before .before .before .before in
-    let is = b .record-at .ensures .0 in
+    let is = record-is (s .args .g) (now (s .args .records)) (s .args .j) (b .record-at .ensures) (s .pre .6) in
     (s .pre .0, s .pre .2, front-long (s .args .g .w) 4096 (limits s .bytes-high), rw is (s .pre .6), rw is (s .pre .7))
 
 -- what the function was called with, before the new parity is made
@@ -79,7 +80,7 @@ returns c =
     let x = now (a .chips) in
     let y = now (a .records) in
     let z = now (a .slots) in
-    rw (commit-list (a .g) (a .j) (a .q) x y z (e .record-at .result) (e .record-at .ensures .0) (recordFrom l (n .committed .result)) (chip .parity-chip .result) (b .new-parity .result) _ (n .committed .ensures .0 (a .g)) (chip .parity-chip .ensures .0) (made b .1 ∙ b .new-parity .ensures .0) (b .new-parity .ensures .1))
+    rw (commit-list (a .g) (a .j) (a .q) x y z (e .record-at .result) (record-is (a .g) y (a .j) (e .record-at .ensures) (start b .pre .6)) (recordFrom l (n .committed .result)) (chip .parity-chip .result) (b .new-parity .result) _ (n .committed .ensures .0 (a .g)) (chip .parity-chip .ensures .0) (made b .1 ∙ b .new-parity .ensures .0) (b .new-parity .ensures .1))
     (ran-append l _ _ _ _ _ (images x y z) (images (p .program .last .0) y z) _ (p .program .ensures y z)
     (c .before .before .store-record .ensures (p .program .last .0) z))
 

@@ -17,7 +17,6 @@ returns c = (
     parity = c .before .pre .1;
     bitmap = omega arith;
     slot = omega arith;
-    rest = omega arith;
   },
 )
 

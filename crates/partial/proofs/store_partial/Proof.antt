@@ -14,6 +14,7 @@ use Rattle.steps.specs.Allowance.{images}
 use Rattle.steps.proofs.Allowances.{ran-none, ran-append}
 use Rattle.rules.specs.Partial.{lowestFreeSlot}
 use Rattle.bytes.proofs.Work.{front-long, front-back}
+use Rattle.fetch.proofs.Others.{record-is}
 use Rattle.partial.proofs.Slots.{free-fits}
 use Rattle.partial.proofs.Steps.{steps-none, steps-found}
 use Rattle.partial.proofs.store_partial.Statement.{statement}
@@ -54,7 +55,7 @@ part-work-end c = narrow (start (slot c))
 new-partial-requires : tie.Need-new-partial-requires
 new-partial-requires c κs =
     let s = start (slot (c .before .before)) in
-    (s .pre .0, s .pre .2, front-long (s .args .g .w) 4096 (narrow s), s .pre .5, s .pre .4, rw (c .before .before .record-at .ensures .0) (s .pre .7))
+    (s .pre .0, s .pre .2, front-long (s .args .g .w) 4096 (narrow s), s .pre .5, s .pre .4, rw (record-is (s .args .g) (now (s .args .records)) (s .args .j) (c .before .before .record-at .ensures) (s .pre .7)) (s .pre .7))
 
 -- and comes back as its front
 back : (c : tie.After-new-partial)
@@ -107,7 +108,7 @@ returns c =
     let y = now (a .slots) in
     let z = f .store-slot .last .0 in
     let last = c .before .before .store-record in
-    rw (steps-found (a .g) (a .j) (a .m) (now (a .bytes)) (a .q) x r y (e .record-at .result) (e .record-at .ensures .0) (i .free .given .0 .0) (found i)
+    rw (steps-found (a .g) (a .j) (a .m) (now (a .bytes)) (a .q) x r y (e .record-at .result) (record-is (a .g) r (a .j) (e .record-at .ensures) (start i .pre .7)) (i .free .given .0 .0) (found i)
     (back n .1 ∙ n .new-partial .ensures .0) (n .new-partial .ensures .1) (c .before .before .before .written .ensures .0 (a .g)))
     (ran-append l (a .p) (f .store-slot .result) (last .result) _ _ (images x r y) (images x r z) _ (f .store-slot .ensures x r) (last .ensures x z))
 

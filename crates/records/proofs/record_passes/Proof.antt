@@ -4,6 +4,7 @@ use native.Mathlib.Numerals.{add-one}
 use native.Mathlib.Omega.{arith}
 use mathlib.Core.Path.{_≡_, refl}
 use mathlib.Core.Logic.{⊎-elim}
+use mathlib.Core.Bool.{and-true}
 use borrow.Author.Needs.{needs}
 use borrow.Author.Tests.{eq-eqb, ne-eqb}
 use Rattle.ranges.specs.Look.{allBelow}
@@ -58,10 +59,10 @@ slot-is c =
 returns : tie.Need-returns Inv-loop μ-loop
 unfolding recordSound recordFrom none
 returns c =
-    let start = c .before .before .before .before .before .before .before .before .before in
-    let loop = c .before .before .before .before .before .before .before .loop in
+    let start = c .before .before .before .before .before .before .before .before in
+    let loop = c .before .before .before .before .before .before .loop in
     let six : loop .m ≡ 6 = omega arith in
-    rw (slot-is (c .before .before .before .before), loop .inv .1, six, bounded (start .args .g) (start .pre) .bitmaps)
+    rw (slot-is (c .before .before .before), loop .inv .1, six, bounded (start .args .g) (start .pre) .bitmaps, and-true)
 
 pub record-passes-spec : {M : Type 1} → statement M
 record-passes-spec =

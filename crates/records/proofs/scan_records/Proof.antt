@@ -42,13 +42,13 @@ add-names c = let o = c .before .before .before .before .before .before in let f
 
 with-record-requires : tie.Need-with-record-requires Inv-loop μ-loop
 with-record-requires c κs =
-    let o = c .before .before .before .before .before .before in
+    let o = c .before .before .before .before .before .before .before in
     let s = start o in
     let few = limits o .stripes-high in
     (s .pre .limited, omega (arith, o .loop .inv .1 .tally .counts, count-le (o .loop .j) (slotted (recordAt (layoutOf (s .args .g)) (s .args .records .now)))))
 
 add-names-2 : tie.Need-add-names-2 Inv-loop μ-loop
-add-names-2 c = let o = c .before .before .before .before .before .before .before .before in let few = limits o .stripes-high in omega (arith, o .loop .inv .1 .few, c .names-of .ensures .1)
+add-names-2 c = let o = c .before .before .before .before .before .before .before .before .before in let few = limits o .stripes-high in omega (arith, o .loop .inv .1 .few, c .names-of .ensures .1)
 
 loop-again : tie.Need-loop-again Inv-loop μ-loop
 loop-again c =
@@ -58,7 +58,7 @@ loop-again c =
     let gone = c .before .names-lost .ensures .0 in
     ⊎-elim
     (λ w. (omega arith, rw (w .2, w .3, w .4) (passed-plain limited p (c .before .before .glance-at .ensures) (w .0 .taken) gone)))
-    (λ w. (omega arith, rw (w .4, w .5, w .6) (passed-next limited p (w .1 .ensures) (w .3 .ensures) (w .2 .ensures) gone)))
+    (λ w. (omega arith, rw (w .5, w .6, w .7) (passed-next limited p (w .1 .ensures) (w .2 .ensures) (w .4 .ensures) (w .3 .ensures) gone)))
     (c .if1 .came)
 
 lowest-unmarked-requires : tie.Need-lowest-unmarked-requires Inv-loop μ-loop
@@ -89,6 +89,7 @@ scan-records-spec =
     (λ c κs. search needs)
     add-gone
     add-names
+    (λ c κs. search needs)
     (λ c κs. search needs)
     (λ c. search needs)
     with-record-requires
