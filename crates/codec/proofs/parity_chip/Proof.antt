@@ -14,17 +14,8 @@ rotated : (g : Geometry) (j n : ℕ) → g .n ≡ n → (n - j % (n + 1) ≡ par
 unfolding parityChip
 rotated g j n e = (rw e, omega arith)
 
-returns : tie.Need-returns
-returns c = rotated (c .before .args .g) (c .before .args .j) 2 (c .match .keys1)
-
-returns-2 : tie.Need-returns-2
-returns-2 c = rotated (c .before .args .g) (c .before .args .j) 3 (c .match .keys2)
-
 returns-3 : tie.Need-returns-3
 returns-3 c = rotated (c .before .args .g) (c .before .args .j) 4 (c .match .keys3)
-
-returns-4 : tie.Need-returns-4
-returns-4 c = rotated (c .before .args .g) (c .before .args .j) 5 (c .match .keys4)
 
 returns-5 : tie.Need-returns-5
 returns-5 c =
@@ -37,4 +28,4 @@ parity-chip-spec =
     tie.close
     (tie.spec
     (λ c. search needs) (λ c. search needs) (λ c. search needs) (λ c. search needs) (λ c. search needs)
-    returns returns-2 returns-3 returns-4 returns-5)
+    (λ c. rotated (c .before .args .g) (c .before .args .j) 2 (c .match .keys1)) (λ c. rotated (c .before .args .g) (c .before .args .j) 3 (c .match .keys2)) returns-3 (λ c. rotated (c .before .args .g) (c .before .args .j) 5 (c .match .keys4)) returns-5)

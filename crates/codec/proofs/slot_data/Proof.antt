@@ -15,15 +15,6 @@ use Rattle.codec.proofs.slot_data.Tie as tie
 fits : (c : tie.Start) → c .args .i * c .args .g .w + c .args .g .w ≤ length (c .args .slots .now)
 fits c = slot-within (c .args .g) (c .args .slots .now) (c .pre .0) (c .args .i) (c .pre .1)
 
-mul-a : tie.Need-mul-a
-mul-a c = omega (arith, fits c)
-
-add-e : tie.Need-add-e
-add-e c = omega (arith, fits c)
-
-part-result-end : tie.Need-part-result-end
-part-result-end c = omega (arith, fits c)
-
 returns : tie.Need-returns
 unfolding slotAt unit part
 returns c =
@@ -34,4 +25,4 @@ pub slot-data-spec : {M : Type 1} → statement M
 slot-data-spec =
     tie.close
     (tie.spec
-    mul-a add-e (λ c. search needs) (λ c. search needs) part-result-end returns)
+    (λ c. omega (arith, fits c)) (λ c. omega (arith, fits c)) (λ c. search needs) (λ c. search needs) (λ c. omega (arith, fits c)) returns)

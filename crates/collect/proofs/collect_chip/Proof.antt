@@ -13,19 +13,10 @@ use Rattle.collect.proofs.collect_chip.Tie as tie
 clean-block-on-requires : tie.Need-clean-block-on-requires
 clean-block-on-requires c κs = ordered (c .before .before .before .before .pre .0 .checked) (c .before .before .before .before .pre .1)
 
-enum-known-d : tie.Need-enum-known-d
-enum-known-d c = search needs
-
 copy-block-requires : tie.Need-copy-block-requires
 copy-block-requires c κs =
     let h = c .before .before .before .before .before .before .before .before .before .before .pre in
     (h .0, h .1, h .2, h .3, sym (c .before .before .before .before .before .clean-block-on .ensures) ∙ c .before .before .before .d .given .1, h .4)
-
-same-length : tie.Need-same-length
-same-length c = search needs
-
-same-length-2 : tie.Need-same-length-2
-same-length-2 c = search needs
 
 returns : tie.Need-returns
 returns c =
@@ -41,22 +32,10 @@ finish-requires c κs =
       copied zs e .sane,
     )
 
-enum-told : tie.Need-enum-told
-enum-told c = search needs
-
-same-length-3 : tie.Need-same-length-3
-same-length-3 c = search needs
-
-same-length-4 : tie.Need-same-length-4
-same-length-4 c = search needs
-
 returns-2 : tie.Need-returns-2
 returns-2 c =
     let s = c .before .before .before .before .before .before .before .before .before .before .before .before .before .before .before .before .before .before .before .before .before .before .before in
     collect-ran (s .pre .0) (s .pre .1) (s .pre .3) (sym (c .before .before .before .before .before .before .before .before .before .before .before .before .before .before .before .before .before .before .clean-block-on .ensures) ∙ c .before .before .before .before .before .before .before .before .before .before .before .before .before .before .before .before .d .given .1) (c .before .before .before .before .before .before .before .before .before .before .before .before .copy-block .ensures) (c .before .before .before .before .finish .ensures)
-
-same-length-5 : tie.Need-same-length-5
-same-length-5 c = search needs
 
 returns-3 : tie.Need-returns-3
 returns-3 c =
@@ -72,15 +51,15 @@ collect-chip-spec =
     tie.close
     (tie.spec
     clean-block-on-requires
-    enum-known-d
+    (λ c. search needs)
     copy-block-requires
-    same-length
-    same-length-2
+    (λ c. search needs)
+    (λ c. search needs)
     returns
     finish-requires
-    enum-told
-    same-length-3
-    same-length-4
+    (λ c. search needs)
+    (λ c. search needs)
+    (λ c. search needs)
     returns-2
-    same-length-5
+    (λ c. search needs)
     returns-3)

@@ -9,18 +9,9 @@ use Rattle.steps.proofs.Allowances.{ran-append}
 use Rattle.collect.proofs.end.Statement.{statement}
 use Rattle.collect.proofs.end.Tie as tie
 
-erase-requires : tie.Need-erase-requires
-erase-requires c κs = search needs
-
 store-collection-requires : tie.Need-store-collection-requires
 store-collection-requires c κs =
     (c .before .before .before .before .before .before .before .pre .1, omega arith, omega arith, c .before .before .before .erase .ensures [] [] .sane)
-
-same-length : tie.Need-same-length
-same-length c = search needs
-
-same-length-2 : tie.Need-same-length-2
-same-length-2 c = search needs
 
 returns : tie.Need-returns
 returns c =
@@ -34,4 +25,4 @@ returns c =
 
 pub end-spec : {M : Type 1} → statement M
 end-spec =
-    tie.close (tie.spec erase-requires store-collection-requires same-length same-length-2 returns)
+    tie.close (tie.spec (λ c κs. search needs) store-collection-requires (λ c. search needs) (λ c. search needs) returns)

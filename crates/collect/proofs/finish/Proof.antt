@@ -16,9 +16,6 @@ use Rattle.collect.proofs.Moves.{finish-first, finish-second, finish-id
 use Rattle.collect.proofs.finish.Statement.{statement}
 use Rattle.collect.proofs.finish.Tie as tie
 
-collection-at-requires : tie.Need-collection-at-requires
-collection-at-requires c κs = search needs
-
 -- outside phase 0 a collection is under way
 way : (c : tie.After-collection-at) → c .collection-at .result .phase ≢ 0 → Working (c .before .before .before .before .args .g) (c .collection-at .result)
 way c =
@@ -31,12 +28,6 @@ end-requires c κs =
     let s = t .before .before .before .before in
     let w = way t (omega arith) in
     (s .pre .0 .chips-fit, s .pre .0 .records-pass .fit, w .chip, w .destination, s .pre .1)
-
-same-length : tie.Need-same-length
-same-length c = search needs
-
-same-length-2 : tie.Need-same-length-2
-same-length-2 c = search needs
 
 returns : tie.Need-returns
 returns c =
@@ -64,9 +55,6 @@ end-requires-2 c κs =
       m .move-all .ensures zs e .sane,
     )
 
-same-length-3 : tie.Need-same-length-3
-same-length-3 c = search needs
-
 same-length-4 : tie.Need-same-length-4
 same-length-4 c =
     c .before .before .before .before .end2 .kept .1 .0
@@ -88,9 +76,6 @@ returns-2 c =
     (λ v. ending (t .collection-at .result .chip) (t .collection-at .result .victim)) s (images (now (a .chips)) (m .move-all .last .1 .0) zs)
     (images (n .end2 .last .0) (n .end2 .last .1 .0) zs) (m .move-all .ensures zs e) (n .end2 .ensures zs))
 
-same-length-5 : tie.Need-same-length-5
-same-length-5 c = search needs
-
 returns-3 : tie.Need-returns-3
 returns-3 c =
     let t = c .before .before .before .before in
@@ -106,15 +91,15 @@ pub finish-spec : {M : Type 1} → statement M
 finish-spec =
     tie.close
     (tie.spec
-    collection-at-requires
+    (λ c κs. search needs)
     end-requires
-    same-length
-    same-length-2
+    (λ c. search needs)
+    (λ c. search needs)
     returns
     move-all-requires
     end-requires-2
-    same-length-3
+    (λ c. search needs)
     same-length-4
     returns-2
-    same-length-5
+    (λ c. search needs)
     returns-3)

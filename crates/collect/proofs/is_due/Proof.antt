@@ -14,20 +14,11 @@ use Rattle.collect.proofs.Dues.{pages-small, between, not-due, due-test
 use Rattle.collect.proofs.is_due.Statement.{statement}
 use Rattle.collect.proofs.is_due.Tie as tie
 
-spare-at-requires : tie.Need-spare-at-requires
-spare-at-requires c κs = search needs
-
 -- the numbers of the victim's pages are small
 victim-small : (c : tie.After-spare-at) → let a = c .before .before .before .args in a .co .victim * a .g .k + a .g .k < 65536
 victim-small c =
     let s = c .before .before .before in
     omega (arith, apart (s .args .g .k) (s .args .co .victim) (s .args .g .b) (s .pre .3), pages-small (s .args .g) (s .pre .0 .chips-fit .limited))
-
-mul-first : tie.Need-mul-first
-mul-first c = omega (arith, victim-small (c .before))
-
-add-if1 : tie.Need-add-if1
-add-if1 c = omega (arith, victim-small (c .before))
 
 returns : tie.Need-returns
 returns c =
@@ -81,9 +72,9 @@ pub is-due-spec : {M : Type 1} → statement M
 is-due-spec =
     tie.close
     (tie.spec
-    spare-at-requires
-    mul-first
-    add-if1
+    (λ c κs. search needs)
+    (λ c. omega (arith, victim-small (c .before)))
+    (λ c. omega (arith, victim-small (c .before)))
     returns
     spare-at-requires-2
     named-at-requires

@@ -12,12 +12,6 @@ use Rattle.collect.proofs.make_room.Tie as tie
 place-on-requires : tie.Need-place-on-requires
 place-on-requires c κs = ordered (c .before .before .before .before .pre .0 .checked) (c .before .before .before .before .pre .1)
 
-enum-told : tie.Need-enum-told
-enum-told c = search needs
-
-same-length : tie.Need-same-length
-same-length c = search needs
-
 returns : tie.Need-returns
 returns c =
     let s = c .before .before .before .before .before .before .before in
@@ -27,26 +21,11 @@ returns c =
     let v = images (now (a .chips)) (now (a .records)) zs in
     rw (room-there l v (a .c) (sym (c .before .before .place-on .ensures) ∙ c .enum-told .given .1)) (ran-none l (a .p) v (s .pre .3))
 
-enum-told-2 : tie.Need-enum-told-2
-enum-told-2 c = search needs
-
-enum-known-v : tie.Need-enum-known-v
-enum-known-v c = search needs
-
 collect-chip-requires : tie.Need-collect-chip-requires
 collect-chip-requires c κs =
     let h = c .before .before .before .before .before .before .before .before .before .before .before .before .pre in
     let nowhere = sym (c .before .before .before .before .before .before .before .place-on .ensures) ∙ c .before .before .before .before .before .enum-told2 .given .1 in
     (h .0, h .1, h .3, sym (h .2 .is nowhere) ∙ c .before .before .before .v .given .1, h .4)
-
-enum-told-3 : tie.Need-enum-told-3
-enum-told-3 c = search needs
-
-same-length-2 : tie.Need-same-length-2
-same-length-2 c = search needs
-
-same-length-3 : tie.Need-same-length-3
-same-length-3 c = search needs
 
 returns-2 : tie.Need-returns-2
 returns-2 c =
@@ -54,9 +33,6 @@ returns-2 c =
     λ zs e.
     rw (room-collects (layoutOf (a .g)) (images (now (a .chips)) (now (a .records)) zs) (a .c) (sym (c .before .before .before .before .before .before .before .before .before .before .before .before .place-on .ensures) ∙ c .before .before .before .before .before .before .before .before .before .before .enum-told2 .given .1))
     (c .before .before .before .before .collect-chip .ensures zs e)
-
-same-length-4 : tie.Need-same-length-4
-same-length-4 c = search needs
 
 returns-3 : tie.Need-returns-3
 returns-3 c =
@@ -74,15 +50,15 @@ make-room-spec =
     tie.close
     (tie.spec
     place-on-requires
-    enum-told
-    same-length
+    (λ c. search needs)
+    (λ c. search needs)
     returns
-    enum-told-2
-    enum-known-v
+    (λ c. search needs)
+    (λ c. search needs)
     collect-chip-requires
-    enum-told-3
-    same-length-2
-    same-length-3
+    (λ c. search needs)
+    (λ c. search needs)
+    (λ c. search needs)
     returns-2
-    same-length-4
+    (λ c. search needs)
     returns-3)

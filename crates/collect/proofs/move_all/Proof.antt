@@ -24,9 +24,6 @@ loop-holds c =
     let a = s .args in
     carried-none (a .g) (now (a .chips)) (now (a .records)) (a .p) (s .pre .3)
 
-same-length : tie.Need-same-length Inv-loop μ-loop
-same-length c = c .before .before .loop .inv .same
-
 returns : tie.Need-returns Inv-loop μ-loop
 returns c =
     let t = c .before .before in
@@ -52,12 +49,6 @@ move-from-requires c κs =
     let s = t .before .before .before in
     (going (c .before) .0, rw (going (c .before) .1) (s .pre .1), s .pre .2, c .before .before .loop-test .taken, t .loop .inv .sane)
 
-add-i : tie.Need-add-i Inv-loop μ-loop
-add-i c = search needs
-
-loop-less : tie.Need-loop-less Inv-loop μ-loop
-loop-less c = search needs
-
 loop-again : tie.Need-loop-again Inv-loop μ-loop
 loop-again c =
     let w = c .before .before .before .before in
@@ -67,9 +58,6 @@ loop-again c =
     let n = c .before .before .move-from in
     carried-more (a .g) (now (a .chips)) (now (a .records)) (a .p) (t .loop .i) (t .loop .run) (t .loop .records) (t .loop .inv)
     (s .pre .0) (sym (s .pre .1 .phase) ∙ s .pre .2) (w .if1 .left) (n .result) (n .last .1 .0) (w .before .loop-test .taken) (n .kept .1 .0) (n .ensures)
-
-same-length-2 : tie.Need-same-length-2 Inv-loop μ-loop
-same-length-2 c = c .before .loop .inv .same
 
 returns-2 : tie.Need-returns-2 Inv-loop μ-loop
 returns-2 c =
@@ -83,11 +71,11 @@ move-all-spec =
     Inv-loop
     μ-loop
     loop-holds
-    same-length
+    (λ c. c .before .before .loop .inv .same)
     returns
     move-from-requires
-    add-i
-    loop-less
+    (λ c. search needs)
+    (λ c. search needs)
     loop-again
-    same-length-2
+    (λ c. c .before .loop .inv .same)
     returns-2)

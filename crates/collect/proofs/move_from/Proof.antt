@@ -32,19 +32,10 @@ fits s =
     let a = s .args in
     (page-fits (a .g) (now (a .chips)) (now (a .records)) (s .pre .0) (a .co) (s .pre .1) (s .pre .2) (a .i) (s .pre .3), pages-small (a .g) (s .pre .0 .chips-fit .limited))
 
-mul-q : tie.Need-mul-q
-mul-q c = omega (arith, fits (c .before .before .before))
-
-add-q : tie.Need-add-q
-add-q c = omega (arith, fits (c .before .before .before))
-
 is-due-requires : tie.Need-is-due-requires
 is-due-requires c κs =
     let s = c .before .before .before .before in
     (s .pre .0, s .pre .1, way s .chip, way s .victim, fits s .0)
-
-same-length : tie.Need-same-length
-same-length c = search needs
 
 returns : tie.Need-returns
 returns c =
@@ -86,9 +77,6 @@ store-record-requires c κs =
     let s = c .before .before .before .before .before .before .before .before .before .before .before in
     (s .pre .0 .records-pass .fit, stripe-fits (c .before .before .before .before), c .before .repoint .ensures .1, s .pre .4)
 
-same-length-2 : tie.Need-same-length-2
-same-length-2 c = search needs
-
 returns-2 : tie.Need-returns-2
 returns-2 c =
     let n = c .before .before .before .before in
@@ -108,14 +96,14 @@ pub move-from-spec : {M : Type 1} → statement M
 move-from-spec =
     tie.close
     (tie.spec
-    mul-q
-    add-q
+    (λ c. omega (arith, fits (c .before .before .before)))
+    (λ c. omega (arith, fits (c .before .before .before)))
     is-due-requires
-    same-length
+    (λ c. search needs)
     returns
     spare-at-requires
     record-at-requires
     repoint-requires
     store-record-requires
-    same-length-2
+    (λ c. search needs)
     returns-2)

@@ -6,8 +6,5 @@ use Rattle.collect.proofs.moved.Tie as tie
 returns : tie.Need-returns
 returns c = rw (eq-eqb _ _ (c .if1 .taken))
 
-returns-2 : tie.Need-returns-2
-returns-2 c = rw (ne-eqb _ _ (c .if1 .left))
-
 pub moved-spec : {M : Type 1} → statement M
-moved-spec = tie.close (tie.spec returns returns-2)
+moved-spec = tie.close (tie.spec returns (λ c. rw (ne-eqb _ _ (c .if1 .left))))

@@ -14,21 +14,12 @@ use Rattle.collect.proofs.Repointing.{parity-moved, member-moved}
 use Rattle.collect.proofs.repoint.Statement.{statement}
 use Rattle.collect.proofs.repoint.Tie as tie
 
-parity-chip-requires : tie.Need-parity-chip-requires
-parity-chip-requires c κs = search needs
-
-moved-requires : tie.Need-moved-requires
-moved-requires c κs = search needs
-
 returns : tie.Need-returns
 returns c =
     let s = c .before .before .before in
     let a = s .args in
     parity-moved (layoutOf (a .g)) (a .t2) (a .c) (a .j) (a .p) (a .q) (s .pre .2) (s .pre .3)
     (c .before .if1 .taken ∙ c .before .before .parity-chip .ensures .0) (c .moved .result) (c .moved .ensures)
-
-sub-m : tie.Need-sub-m
-sub-m c = search needs
 
 -- the member worked out is the one on the chip, and one of six
 member : (c : tie.Joined2)
@@ -43,36 +34,6 @@ member c =
     (λ w. (rw (← p .ensures .0, lt-ltb (s .args .c) (p .result) (w .0 .taken)) (w .1), omega arith))
     (λ w. (rw (← p .ensures .0, le-ltb (s .args .c) (p .result) (w .0 .left)) (w .1), omega arith))
     (c .if2 .came)
-
-mul-moved : tie.Need-mul-moved
-mul-moved c = omega (arith, member (c .before))
-
-element-copy-out-moved : tie.Need-element-copy-out-moved
-element-copy-out-moved c = member (c .before) .1
-
-moved-requires-2 : tie.Need-moved-requires-2
-moved-requires-2 c κs = search needs
-
-mul-next : tie.Need-mul-next
-mul-next c = omega (arith, member (c .before .before .before))
-
-element-write-next : tie.Need-element-write-next
-element-write-next c = member (c .before .before .before) .1
-
-mul-moved-2 : tie.Need-mul-moved-2
-mul-moved-2 c = omega (arith, member (c .before .before .before))
-
-element-copy-out-moved-2 : tie.Need-element-copy-out-moved-2
-element-copy-out-moved-2 c = member (c .before .before .before) .1
-
-moved-requires-3 : tie.Need-moved-requires-3
-moved-requires-3 c κs = search needs
-
-mul-next-2 : tie.Need-mul-next-2
-mul-next-2 c = omega (arith, member (c .before .before .before .before .before))
-
-element-write-next-2 : tie.Need-element-write-next-2
-element-write-next-2 c = member (c .before .before .before .before .before) .1
 
 returns-2 : tie.Need-returns-2
 returns-2 c =
@@ -90,18 +51,18 @@ pub repoint-spec : {M : Type 1} → statement M
 repoint-spec =
     tie.close
     (tie.spec
-    parity-chip-requires
-    moved-requires
+    (λ c κs. search needs)
+    (λ c κs. search needs)
     returns
-    sub-m
-    mul-moved
-    element-copy-out-moved
-    moved-requires-2
-    mul-next
-    element-write-next
-    mul-moved-2
-    element-copy-out-moved-2
-    moved-requires-3
-    mul-next-2
-    element-write-next-2
+    (λ c. search needs)
+    (λ c. omega (arith, member (c .before)))
+    (λ c. member (c .before) .1)
+    (λ c κs. search needs)
+    (λ c. omega (arith, member (c .before .before .before)))
+    (λ c. member (c .before .before .before) .1)
+    (λ c. omega (arith, member (c .before .before .before)))
+    (λ c. member (c .before .before .before) .1)
+    (λ c κs. search needs)
+    (λ c. omega (arith, member (c .before .before .before .before .before)))
+    (λ c. member (c .before .before .before .before .before) .1)
     returns-2)

@@ -37,15 +37,6 @@ begun c =
     let s = start c in
     record { settled = s .pre .0; chip = s .pre .1; victim = s .pre .3; clean = s .pre .4; first = c .before .before .store-phase .ensures }
 
-loop-holds : tie.Need-loop-holds Inv-loop μ-loop
-loop-holds c = copying-none (c .before .before .store-phase .ensures [] [] .sane)
-
-same-length : tie.Need-same-length Inv-loop μ-loop
-same-length c = c .before .before .loop .inv .same
-
-same-length-2 : tie.Need-same-length-2 Inv-loop μ-loop
-same-length-2 c = search needs
-
 returns : tie.Need-returns Inv-loop μ-loop
 returns c = λ zs e. copying-cut (begun (c .before .before .before)) zs e (c .before .before .loop .inv) (c .if1 .taken)
 
@@ -75,24 +66,12 @@ place c =
       within _ _ _ (s .pre .0 .checked) .pages-numbered,
     )
 
-mul-page : tie.Need-mul-page Inv-loop μ-loop
-mul-page c = omega (arith, place c)
-
-add-page : tie.Need-add-page Inv-loop μ-loop
-add-page c = omega (arith, place c)
-
 named-at-requires : tie.Need-named-at-requires Inv-loop μ-loop
 named-at-requires c κs =
     let w = c .before .before in
     let t = w .before .before in
     let (zs, e) = some-slots (layoutOf (start (t .before) .args .g)) in
     (copying-stamps (begun (t .before)) zs e (t .loop .inv) (w .if1 .left), place w .0)
-
-mul-copy-page : tie.Need-mul-copy-page Inv-loop μ-loop
-mul-copy-page c = omega (arith, place (c .before .before .before .before .before .before))
-
-add-copy-page : tie.Need-add-copy-page Inv-loop μ-loop
-add-copy-page c = omega (arith, place (c .before .before .before .before .before .before))
 
 copy-page-requires : tie.Need-copy-page-requires Inv-loop μ-loop
 copy-page-requires c κs =
@@ -112,15 +91,6 @@ copy-page-requires c κs =
       t .loop .inv .sane,
       copying-page (begun (t .before)) zs e (t .loop .inv) (w .if1 .left) (t .loop .i) (w .before .loop-test .taken) named-too,
     )
-
-add-copies : tie.Need-add-copies Inv-loop μ-loop
-add-copies c = omega (arith, place (c .before .before .before .before .before .before .before .before .before))
-
-add-i : tie.Need-add-i Inv-loop μ-loop
-add-i c = omega (arith, place (c .before .before .before .before))
-
-loop-less : tie.Need-loop-less Inv-loop μ-loop
-loop-less c = omega (arith, c .before .before .before .before .before .loop-test .taken)
 
 loop-again : tie.Need-loop-again Inv-loop μ-loop
 loop-again c =
@@ -144,9 +114,6 @@ store-phase-requires-2 c κs =
     let h = s .pre .0 .checked in
     (record { limited = h .chips-fit .limited; long = k .before .before .store-phase .kept .0 ∙ h .records-pass .fit .long }, omega arith, omega (arith, s .pre .1, within _ _ _ h .members-high), c .before .before .loop .inv .sane)
 
-same-length-3 : tie.Need-same-length-3 Inv-loop μ-loop
-same-length-3 c = c .before .before .before .before .before .loop .inv .same
-
 same-length-4 : tie.Need-same-length-4 Inv-loop μ-loop
 same-length-4 c = c .before .before .store-phase2 .kept .0 ∙ c .before .before .before .before .before .before .before .before .store-phase .kept .0
 
@@ -162,21 +129,21 @@ copy-block-spec =
     Inv-loop
     μ-loop
     store-phase-requires
-    loop-holds
-    same-length
-    same-length-2
+    (λ c. copying-none (c .before .before .store-phase .ensures [] [] .sane))
+    (λ c. c .before .before .loop .inv .same)
+    (λ c. search needs)
     returns
-    mul-page
-    add-page
+    (λ c. omega (arith, place c))
+    (λ c. omega (arith, place c))
     named-at-requires
-    mul-copy-page
-    add-copy-page
+    (λ c. omega (arith, place (c .before .before .before .before .before .before)))
+    (λ c. omega (arith, place (c .before .before .before .before .before .before)))
     copy-page-requires
-    add-copies
-    add-i
-    loop-less
+    (λ c. omega (arith, place (c .before .before .before .before .before .before .before .before .before)))
+    (λ c. omega (arith, place (c .before .before .before .before)))
+    (λ c. omega (arith, c .before .before .before .before .before .loop-test .taken))
     loop-again
     store-phase-requires-2
-    same-length-3
+    (λ c. c .before .before .before .before .before .loop .inv .same)
     same-length-4
     returns-2)

@@ -14,30 +14,6 @@ Inv-loop bitmap inside numbers₀ i₀ numbers i = Chosen bitmap inside numbers�
 abbrev μ-loop : tie.MeasureT-loop
 μ-loop bitmap inside numbers₀ i₀ numbers i = 6 - i
 
-loop-holds : tie.Need-loop-holds Inv-loop μ-loop
-loop-holds c = chosen-none (c .args .bitmap) (c .args .t2) (c .args .outside) (search needs)
-
-bit-of-requires : tie.Need-bit-of-requires Inv-loop μ-loop
-bit-of-requires c κs = omega arith
-
-mul-numbers : tie.Need-mul-numbers Inv-loop μ-loop
-mul-numbers c = omega arith
-
-array-read-numbers : tie.Need-array-read-numbers Inv-loop μ-loop
-array-read-numbers c = omega arith
-
-mul-numbers-2 : tie.Need-mul-numbers-2 Inv-loop μ-loop
-mul-numbers-2 c = omega arith
-
-array-write-numbers : tie.Need-array-write-numbers Inv-loop μ-loop
-array-write-numbers c = omega arith
-
-add-i : tie.Need-add-i Inv-loop μ-loop
-add-i c = omega arith
-
-loop-less : tie.Need-loop-less Inv-loop μ-loop
-loop-less c = omega arith
-
 loop-again : tie.Need-loop-again Inv-loop μ-loop
 loop-again c =
     let s = c .before .before .before .loop .inv in
@@ -56,13 +32,13 @@ chosen-spec =
     (tie.spec
     Inv-loop
     μ-loop
-    loop-holds
-    bit-of-requires
-    mul-numbers
-    array-read-numbers
-    mul-numbers-2
-    array-write-numbers
-    add-i
-    loop-less
+    (λ c. chosen-none (c .args .bitmap) (c .args .t2) (c .args .outside) (search needs))
+    (λ c κs. omega arith)
+    (λ c. omega arith)
+    (λ c. omega arith)
+    (λ c. omega arith)
+    (λ c. omega arith)
+    (λ c. omega arith)
+    (λ c. omega arith)
     loop-again
     returns)

@@ -23,15 +23,6 @@ loop-holds c =
     let w = within (layoutOf (a .g)) (start .pre .0 .limited) in
     gathered-none (a .g) (a .chips .now) (a .j) (a .t5) (a .work .now) (w .members-high) (start .pre .1)
 
-mul-p : tie.Need-mul-p Inv-loop μ-loop
-mul-p c = omega arith
-
-array-read-p : tie.Need-array-read-p Inv-loop μ-loop
-array-read-p c = omega arith
-
-member-chip-requires : tie.Need-member-chip-requires Inv-loop μ-loop
-member-chip-requires c κs = search needs
-
 page-data-requires : tie.Need-page-data-requires Inv-loop μ-loop
 unfolding none
 page-data-requires c κs =
@@ -44,17 +35,8 @@ page-data-requires c κs =
       rw at at (start .pre .2 .fits m (omega arith) (rw at (c .before .before .if1 .taken))),
     )
 
-xor-into-requires : tie.Need-xor-into-requires Inv-loop μ-loop
-xor-into-requires c κs = omega arith
-
 add-reads : tie.Need-add-reads Inv-loop μ-loop
 add-reads c = omega (arith, gathered-few (c .before .before .before .before .before .before .before .before .loop .inv))
-
-add-m : tie.Need-add-m Inv-loop μ-loop
-add-m c = omega arith
-
-loop-less : tie.Need-loop-less Inv-loop μ-loop
-loop-less c = omega arith
 
 loop-again : tie.Need-loop-again Inv-loop μ-loop
 loop-again c =
@@ -68,12 +50,6 @@ loop-again c =
     (λ w. rw (w .1, w .2) (gathered-skip s h (w .0 .left)))
     (c .if1 .came)
 
-same-length : tie.Need-same-length Inv-loop μ-loop
-same-length c = search needs
-
-returns : tie.Need-returns Inv-loop μ-loop
-returns c = gathered-all (c .before .loop .inv) (c .loop-test .left)
-
 pub gather-spec : {M : Type 1} → statement M
 gather-spec =
     tie.close
@@ -81,14 +57,14 @@ gather-spec =
     Inv-loop
     μ-loop
     loop-holds
-    mul-p
-    array-read-p
-    member-chip-requires
+    (λ c. omega arith)
+    (λ c. omega arith)
+    (λ c κs. search needs)
     page-data-requires
-    xor-into-requires
+    (λ c κs. omega arith)
     add-reads
-    add-m
-    loop-less
+    (λ c. omega arith)
+    (λ c. omega arith)
     loop-again
-    same-length
-    returns)
+    (λ c. search needs)
+    (λ c. gathered-all (c .before .loop .inv) (c .loop-test .left)))

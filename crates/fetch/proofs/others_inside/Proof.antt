@@ -4,19 +4,10 @@ use Rattle.fetch.proofs.Others.{inside-chosen}
 use Rattle.fetch.proofs.others_inside.Statement.{statement}
 use Rattle.fetch.proofs.others_inside.Tie as tie
 
-mul-current : tie.Need-mul-current
-mul-current c = search needs
-
-array-write-current : tie.Need-array-write-current
-array-write-current c = search needs
-
-chosen-requires : tie.Need-chosen-requires
-chosen-requires c κs = search needs
-
 returns : tie.Need-returns
 returns c g =
     let s = c .before .before in
     inside-chosen g (s .args .e) (s .args .m) (search needs) (s .pre) (c .chosen .result) (c .chosen .ensures g)
 
 pub others-inside-spec : {M : Type 1} → statement M
-others-inside-spec = tie.close (tie.spec mul-current array-write-current chosen-requires returns)
+others-inside-spec = tie.close (tie.spec (λ c. search needs) (λ c. search needs) (λ c κs. search needs) returns)

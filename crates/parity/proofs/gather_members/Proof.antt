@@ -49,9 +49,6 @@ loop-again c =
     (λ w. rw (w .1, w .2) (members-skip s (bit .result) (bit .ensures) h (w .0 .left)))
     (c .if1 .came)
 
-returns : tie.Need-returns Inv-loop μ-loop
-returns c = members-all (c .before .loop .inv) (c .loop-test .left)
-
 pub gather-members-spec : {M : Type 1} → statement M
 gather-members-spec =
     tie.close
@@ -66,4 +63,4 @@ gather-members-spec =
     (λ c. omega arith)
     loop-again
     (λ c. search needs)
-    returns)
+    (λ c. members-all (c .before .loop .inv) (c .loop-test .left)))

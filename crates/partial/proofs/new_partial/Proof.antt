@@ -70,14 +70,8 @@ joined c =
     ))
     (c .if2 .came)
 
-xor-into-requires : tie.Need-xor-into-requires
-xor-into-requires c κs = start (c .before .before) .pre .3 ∙ sym (joined (c .before) .0)
-
 same-length-2 : tie.Need-same-length-2
 same-length-2 c = c .before .before .xor-into .kept .0 ∙ joined (c .before .before .before .before) .0 ∙ sym (start (c .before .before .before .before .before) .pre .2)
-
-returns-2 : tie.Need-returns-2
-returns-2 c = rw (c .before .before .xor-into .ensures) (joined (c .before .before .before .before) .1)
 
 pub new-partial-spec : {M : Type 1} → statement M
 new-partial-spec =
@@ -90,6 +84,6 @@ new-partial-spec =
     (λ c κs. search needs)
     bit-of-requires
     fetch-requires
-    xor-into-requires
+    (λ c κs. start (c .before .before) .pre .3 ∙ sym (joined (c .before) .0))
     same-length-2
-    returns-2)
+    (λ c. rw (c .before .before .xor-into .ensures) (joined (c .before .before .before .before) .1)))

@@ -49,9 +49,6 @@ fits c =
 narrow : (s : tie.Start) → s .args .g .w ≤ 4096
 narrow s = within (layoutOf (s .args .g)) (s .pre .0 .limited) .bytes-high
 
-part-work-end : tie.Need-part-work-end
-part-work-end c = narrow (start (slot c))
-
 new-partial-requires : tie.Need-new-partial-requires
 new-partial-requires c κs =
     let s = start (slot (c .before .before)) in
@@ -65,9 +62,6 @@ back : (c : tie.After-new-partial)
 back c =
     let s = start (slot (entry c)) in
     front-back (s .args .g .w) 4096 (narrow s) (c .new-partial .kept .0) refl
-
-part-store-slot-end : tie.Need-part-store-slot-end
-part-store-slot-end c = back (c .before .before .before) .0
 
 store-slot-requires : tie.Need-store-slot-requires
 store-slot-requires c κs =
@@ -128,11 +122,11 @@ store-partial-spec =
     (λ c κs. search needs)
     (λ c. search needs)
     (λ c. search needs)
-    part-work-end
+    (λ c. narrow (start (slot c)))
     new-partial-requires
     (λ c. search needs)
     (λ c. search needs)
-    part-store-slot-end
+    (λ c. back (c .before .before .before) .0)
     store-slot-requires
     written-requires
     store-record-requires

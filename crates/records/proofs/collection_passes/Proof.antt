@@ -6,12 +6,6 @@ use Rattle.rules.specs.Sound.{collectionSound}
 use Rattle.records.proofs.collection_passes.Statement.{statement}
 use Rattle.records.proofs.collection_passes.Tie as tie
 
-collection-ends-requires : tie.Need-collection-ends-requires
-collection-ends-requires c κs = search needs
-
-collection-at-requires : tie.Need-collection-at-requires
-collection-at-requires c κs = search needs
-
 returns : tie.Need-returns
 unfolding collectionSound
 returns c =
@@ -30,4 +24,4 @@ returns-2 c =
 
 pub collection-passes-spec : {M : Type 1} → statement M
 collection-passes-spec =
-    tie.close (tie.spec collection-ends-requires collection-at-requires returns returns-2)
+    tie.close (tie.spec (λ c κs. search needs) (λ c κs. search needs) returns returns-2)

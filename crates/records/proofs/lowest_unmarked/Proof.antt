@@ -17,9 +17,6 @@ Inv-loop marks m i₀ i = (i ≤ m + 1) × (firstBelow i (unmarked marks) ≡ No
 abbrev μ-loop : tie.MeasureT-loop
 μ-loop marks m i₀ i = m + 1 - i
 
-loop-holds : tie.Need-loop-holds Inv-loop μ-loop
-loop-holds c = (omega arith, first-start (unmarked (c .args .marks .now)))
-
 returns : tie.Need-returns Inv-loop μ-loop
 returns c =
     let a = c .before .before .before .before .args in
@@ -44,7 +41,7 @@ lowest-unmarked-spec =
     (tie.spec
     Inv-loop
     μ-loop
-    loop-holds
+    (λ c. (omega arith, first-start (unmarked (c .args .marks .now))))
     (λ c. search needs)
     returns
     (λ c. omega arith)

@@ -10,24 +10,6 @@ use Rattle.codec.proofs.Sizes.{bounded}
 use Rattle.records.proofs.member_passes.Statement.{statement}
 use Rattle.records.proofs.member_passes.Tie as tie
 
-mul-pages : tie.Need-mul-pages
-mul-pages c = omega (arith, bounded (c .before .args .g) (c .before .pre .0))
-
-mul-current : tie.Need-mul-current
-mul-current c = search needs
-
-element-copy-out-current : tie.Need-element-copy-out-current
-element-copy-out-current c = search needs
-
-mul-old : tie.Need-mul-old
-mul-old c = search needs
-
-element-copy-out-old : tie.Need-element-copy-out-old
-element-copy-out-old c = search needs
-
-bit-of-requires : tie.Need-bit-of-requires
-bit-of-requires c κs = search needs
-
 returns : tie.Need-returns
 unfolding memberSound bit recordFrom sixOf none
 returns c =
@@ -38,10 +20,10 @@ pub member-passes-spec : {M : Type 1} → statement M
 member-passes-spec =
     tie.close
     (tie.spec
-    mul-pages
-    mul-current
-    element-copy-out-current
-    mul-old
-    element-copy-out-old
-    bit-of-requires
+    (λ c. omega (arith, bounded (c .before .args .g) (c .before .pre .0)))
+    (λ c. search needs)
+    (λ c. search needs)
+    (λ c. search needs)
+    (λ c. search needs)
+    (λ c κs. search needs)
     returns)

@@ -17,15 +17,6 @@ Inv-loop e names₀ m₀ names m = (m ≤ 6) × (names ≡ namesTo e m)
 abbrev μ-loop : tie.MeasureT-loop
 μ-loop e names₀ m₀ names m = 6 - m
 
-loop-holds : tie.Need-loop-holds Inv-loop μ-loop
-loop-holds c = (omega arith, names-none (c .args .t1))
-
-mul-if1 : tie.Need-mul-if1 Inv-loop μ-loop
-mul-if1 c = search needs
-
-element-copy-out-if1 : tie.Need-element-copy-out-if1 Inv-loop μ-loop
-element-copy-out-if1 c = search needs
-
 add-names : tie.Need-add-names Inv-loop μ-loop
 add-names c = omega (arith, names-most (c .before .before .before .before .args .t1) (c .before .before .before .loop .m))
 
@@ -51,32 +42,17 @@ with-old c =
     (λ w. rw (eq-eqb p 65535 (w .0 .left)) (omega arith))
     (c .if2 .came)
 
-mul-if2 : tie.Need-mul-if2 Inv-loop μ-loop
-mul-if2 c = search needs
-
-element-copy-out-if2 : tie.Need-element-copy-out-if2 Inv-loop μ-loop
-element-copy-out-if2 c = search needs
-
 add-names-2 : tie.Need-add-names-2 Inv-loop μ-loop
 add-names-2 c =
     let a = c .before .before .before .before .before .before .before .args in
     let h = names-most (a .t1) (c .before .before .before .before .before .before .loop .m) in
     ⊎-elim (λ w. omega arith) (λ w. omega arith) (c .before .before .before .if1 .came)
 
-add-m : tie.Need-add-m Inv-loop μ-loop
-add-m c = search needs
-
-loop-less : tie.Need-loop-less Inv-loop μ-loop
-loop-less c = search needs
-
 loop-again : tie.Need-loop-again Inv-loop μ-loop
 loop-again c =
     let e = c .before .before .before .before .before .before .args .t1 in
     let m = c .before .before .before .before .before .loop .m in
     (omega arith, omega (arith, names-member e m, with-current (c .before .before), with-old c))
-
-add-names-3 : tie.Need-add-names-3 Inv-loop μ-loop
-add-names-3 c = omega (arith, names-most (c .before .before .before .args .t1) (c .before .before .loop .m))
 
 returns : tie.Need-returns Inv-loop μ-loop
 returns c =
@@ -100,16 +76,16 @@ names-of-spec =
     (tie.spec
     Inv-loop
     μ-loop
-    loop-holds
-    mul-if1
-    element-copy-out-if1
+    (λ c. (omega arith, names-none (c .args .t1)))
+    (λ c. search needs)
+    (λ c. search needs)
     add-names
-    mul-if2
-    element-copy-out-if2
+    (λ c. search needs)
+    (λ c. search needs)
     add-names-2
-    add-m
-    loop-less
+    (λ c. search needs)
+    (λ c. search needs)
     loop-again
-    add-names-3
+    (λ c. omega (arith, names-most (c .before .before .before .args .t1) (c .before .before .loop .m)))
     returns
     returns-2)

@@ -22,21 +22,9 @@ Inv-loop g e n most pages members₀ m₀ members m =
 abbrev μ-loop : tie.MeasureT-loop
 μ-loop g e n most pages members₀ m₀ members m = 6 - m
 
-mul-pages : tie.Need-mul-pages Inv-loop μ-loop
-mul-pages c = omega (arith, bounded (c .before .args .g) (c .before .pre))
-
 loop-holds : tie.Need-loop-holds Inv-loop μ-loop
 unfolding allBelow
 loop-holds c = (omega arith, refl)
-
-member-passes-requires : tie.Need-member-passes-requires Inv-loop μ-loop
-member-passes-requires c κs = search needs
-
-add-m : tie.Need-add-m Inv-loop μ-loop
-add-m c = search needs
-
-loop-less : tie.Need-loop-less Inv-loop μ-loop
-loop-less c = search needs
 
 loop-again : tie.Need-loop-again Inv-loop μ-loop
 unfolding allBelow
@@ -70,11 +58,11 @@ record-passes-spec =
     (tie.spec
     Inv-loop
     μ-loop
-    mul-pages
+    (λ c. omega (arith, bounded (c .before .args .g) (c .before .pre)))
     loop-holds
-    member-passes-requires
-    add-m
-    loop-less
+    (λ c κs. search needs)
+    (λ c. search needs)
+    (λ c. search needs)
     loop-again
     shl-result
     returns)

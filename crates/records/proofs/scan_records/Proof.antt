@@ -61,9 +61,6 @@ loop-again c =
     (λ w. (omega arith, rw (w .5, w .6, w .7) (passed-next limited p (w .1 .ensures) (w .2 .ensures) (w .4 .ensures) (w .3 .ensures) gone)))
     (c .if1 .came)
 
-lowest-unmarked-requires : tie.Need-lowest-unmarked-requires Inv-loop μ-loop
-lowest-unmarked-requires c κs = limits (c .before .before .before .before .before .before .before) .partials-high
-
 returns : tie.Need-returns Inv-loop μ-loop
 returns c =
     let o = c .before .before .before .before .before .before .before .before in
@@ -101,6 +98,6 @@ scan-records-spec =
     loop-again
     (λ c κs. search needs)
     (λ c κs. search needs)
-    lowest-unmarked-requires
+    (λ c κs. limits (c .before .before .before .before .before .before .before) .partials-high)
     (λ c. c .before .before .before .before .before .before .before .before .loop .inv .1 .less)
     returns)

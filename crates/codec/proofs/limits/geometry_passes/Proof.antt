@@ -29,19 +29,10 @@ returns c =
     let g = c .before .before .before .before .before .before .before .before .before .before .args .g in
     sizes-fail g (not-true (sizes g) (c .if1 .taken))
 
-mul-counts : tie.Need-mul-counts
-mul-counts c = omega (arith, small (first c) (sized c))
-
 returns-2 : tie.Need-returns-2
 returns-2 c =
     let d = c .before .before .before .before .before in
     counts-fail (first d) (sized d) (not-true (counts (first d)) (c .if2 .taken))
-
-add-result : tie.Need-add-result
-add-result c = omega (arith, few (second c) (counted c))
-
-add-result-2 : tie.Need-add-result-2
-add-result-2 c = omega (arith, few (second c) (counted c))
 
 sub-result : tie.Need-sub-result
 sub-result c =
@@ -62,4 +53,4 @@ pub geometry-passes-spec : {M : Type 1} → statement M
 geometry-passes-spec =
     tie.close
     (tie.spec
-    returns mul-counts returns-2 add-result add-result-2 sub-result mul-result returns-3)
+    returns (λ c. omega (arith, small (first c) (sized c))) returns-2 (λ c. omega (arith, few (second c) (counted c))) (λ c. omega (arith, few (second c) (counted c))) sub-result mul-result returns-3)

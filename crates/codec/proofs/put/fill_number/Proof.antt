@@ -13,20 +13,11 @@ Inv-loop dst₀ x rest₀ i₀ i-end dst rest i = Digits x dst₀ i rest dst
 abbrev μ-loop : tie.MeasureT-loop
 μ-loop dst₀ x rest₀ i₀ i-end dst rest i = i-end - i
 
-loop-holds : tie.Need-loop-holds Inv-loop μ-loop
-loop-holds c = digits-none (c .args .x) (c .args .dst .now)
-
 loop-again : tie.Need-loop-again Inv-loop μ-loop
 loop-again c = digits-more (c .before .loop .inv) (omega arith)
-
-same-length : tie.Need-same-length Inv-loop μ-loop
-same-length c = c .before .loop .inv .stored .same
-
-returns : tie.Need-returns Inv-loop μ-loop
-returns c = stored-all (c .before .loop .inv .stored) (omega arith)
 
 pub fill-number-spec : {M : Type 1} → statement M
 fill-number-spec =
     tie.close
-    (tie.spec Inv-loop μ-loop loop-holds (λ c. search needs) (λ c. search needs) (λ c. search needs) (λ c. search needs)
-    loop-again same-length returns)
+    (tie.spec Inv-loop μ-loop (λ c. digits-none (c .args .x) (c .args .dst .now)) (λ c. search needs) (λ c. search needs) (λ c. search needs) (λ c. search needs)
+    loop-again (λ c. c .before .loop .inv .stored .same) (λ c. stored-all (c .before .loop .inv .stored) (omega arith)))

@@ -18,9 +18,6 @@ Inv-loop records₀ n j₀ t7 records j = Firsts 32 n t7 records₀ j records
 abbrev μ-loop : tie.MeasureT-loop
 μ-loop records₀ n j₀ t7 records j = n - j
 
-loop-holds : tie.Need-loop-holds Inv-loop μ-loop
-loop-holds c = firsts-none 32 (c .before .args .n) _ (c .before .args .records .now)
-
 -- the record ends within the image
 fits : (c : tie.In-loop Inv-loop μ-loop) → c .before .loop .j * 32 + 32 ≤ length (c .before .loop .records)
 fits c =
@@ -33,9 +30,6 @@ unfolding unitPut put
 loop-again c =
     firsts-more (c .before .before .before .before .before .before .loop .inv) (omega arith) refl (fits (c .before .before .before .before .before)) (rw (c .before .before .copy .ensures, add-sub-cancel-left))
 
-same-length : tie.Need-same-length Inv-loop μ-loop
-same-length c = c .before .loop .inv .same
-
 returns : tie.Need-returns Inv-loop μ-loop
 returns c =
     let past : c .before .loop .j ≡ c .before .before .before .args .n = omega arith in
@@ -44,5 +38,5 @@ returns c =
 pub put-empty-records-spec : {M : Type 1} → statement M
 put-empty-records-spec =
     tie.close
-    (tie.spec Inv-loop μ-loop loop-holds (λ c. omega (arith, fits c)) (λ c. omega (arith, fits c)) (λ c. search needs) (λ c. search needs) (λ c. omega (arith, fits c))
-    (λ c. search needs) (λ c κs. search needs) (λ c. search needs) (λ c. search needs) loop-again same-length returns)
+    (tie.spec Inv-loop μ-loop (λ c. firsts-none 32 (c .before .args .n) _ (c .before .args .records .now)) (λ c. omega (arith, fits c)) (λ c. omega (arith, fits c)) (λ c. search needs) (λ c. search needs) (λ c. omega (arith, fits c))
+    (λ c. search needs) (λ c κs. search needs) (λ c. search needs) (λ c. search needs) loop-again (λ c. c .before .loop .inv .same) returns)

@@ -14,14 +14,8 @@ Inv-loop dst₀ a xs m₀ dst m = (m ≤ 6) × Numbers a 2 (λ (i : ℕ). getD x
 abbrev μ-loop : tie.MeasureT-loop
 μ-loop dst₀ a xs m₀ dst m = 6 - m
 
-loop-holds : tie.Need-loop-holds Inv-loop μ-loop
-loop-holds c = (omega arith, numbers-none (c .before .args .a) 2 _ (c .before .args .dst .now))
-
 loop-again : tie.Need-loop-again Inv-loop μ-loop
 loop-again c = (omega arith, numbers-more (c .before .before .before .before .before .loop .inv .1) (omega arith) (c .before .before .put-number .ensures))
-
-same-length : tie.Need-same-length Inv-loop μ-loop
-same-length c = c .before .loop .inv .1 .same
 
 returns : tie.Need-returns Inv-loop μ-loop
 returns c =
@@ -31,5 +25,5 @@ returns c =
 pub put-six-spec : {M : Type 1} → statement M
 put-six-spec =
     tie.close
-    (tie.spec Inv-loop μ-loop loop-holds (λ c. search needs) (λ c. search needs) (λ c. search needs) (λ c. search needs)
-    (λ c κs. search needs) (λ c. search needs) (λ c. search needs) loop-again same-length returns)
+    (tie.spec Inv-loop μ-loop (λ c. (omega arith, numbers-none (c .before .args .a) 2 _ (c .before .args .dst .now))) (λ c. search needs) (λ c. search needs) (λ c. search needs) (λ c. search needs)
+    (λ c κs. search needs) (λ c. search needs) (λ c. search needs) loop-again (λ c. c .before .loop .inv .1 .same) returns)

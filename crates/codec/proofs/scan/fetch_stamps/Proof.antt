@@ -56,47 +56,8 @@ add-first c =
     let s = c .before .before in
     omega (arith, page-high (s .args .g) (s .args .c) (s .args .b * s .args .g .k) (s .pre .1) (first-page s) (s .pre .0 .limited))
 
-loop-holds : tie.Need-loop-holds Inv-loop μ-loop
-loop-holds c = (omega arith, c .before .before .pre .3, c .before .before .pre .4, fill-start, fill-start)
-
 add-a : tie.Need-add-a Inv-loop μ-loop
 add-a c = omega (arith, within (layoutOf (c .before .before .before .before .args .g)) (c .before .before .before .before .pre .0 .limited) .bytes-high)
-
-mul-a : tie.Need-mul-a Inv-loop μ-loop
-mul-a c = omega (arith, place c)
-
-add-a-2 : tie.Need-add-a-2 Inv-loop μ-loop
-add-a-2 c = omega (arith, place c)
-
-tag-at-requires : tie.Need-tag-at-requires Inv-loop μ-loop
-tag-at-requires c κs = omega (arith, place c)
-
-mul-tags : tie.Need-mul-tags Inv-loop μ-loop
-mul-tags c = omega (arith, places (c .before))
-
-element-write-tags : tie.Need-element-write-tags Inv-loop μ-loop
-element-write-tags c = omega (arith, places (c .before))
-
-add-number-at : tie.Need-add-number-at Inv-loop μ-loop
-add-number-at c = omega (arith, place (c .before))
-
-number-at-requires : tie.Need-number-at-requires Inv-loop μ-loop
-number-at-requires c κs = omega (arith, place (c .before))
-
-cast-stripes : tie.Need-cast-stripes Inv-loop μ-loop
-cast-stripes c = record { fits = omega arith }
-
-mul-stripes : tie.Need-mul-stripes Inv-loop μ-loop
-mul-stripes c = omega (arith, places (c .before .before))
-
-element-write-stripes : tie.Need-element-write-stripes Inv-loop μ-loop
-element-write-stripes c = omega (arith, places (c .before .before))
-
-add-i : tie.Need-add-i Inv-loop μ-loop
-add-i c = omega (arith, places (c .before .before))
-
-loop-less : tie.Need-loop-less Inv-loop μ-loop
-loop-less c = omega arith
 
 loop-again : tie.Need-loop-again Inv-loop μ-loop
 loop-again c =
@@ -125,19 +86,19 @@ fetch-stamps-spec =
     mul-page-offset
     page-offset-requires
     add-first
-    loop-holds
+    (λ c. (omega arith, c .before .before .pre .3, c .before .before .pre .4, fill-start, fill-start))
     add-a
-    mul-a
-    add-a-2
-    tag-at-requires
-    mul-tags
-    element-write-tags
-    add-number-at
-    number-at-requires
-    cast-stripes
-    mul-stripes
-    element-write-stripes
-    add-i
-    loop-less
+    (λ c. omega (arith, place c))
+    (λ c. omega (arith, place c))
+    (λ c κs. omega (arith, place c))
+    (λ c. omega (arith, places (c .before)))
+    (λ c. omega (arith, places (c .before)))
+    (λ c. omega (arith, place (c .before)))
+    (λ c κs. omega (arith, place (c .before)))
+    (λ c. record { fits = omega arith })
+    (λ c. omega (arith, places (c .before .before)))
+    (λ c. omega (arith, places (c .before .before)))
+    (λ c. omega (arith, places (c .before .before)))
+    (λ c. omega arith)
     loop-again
     returns)

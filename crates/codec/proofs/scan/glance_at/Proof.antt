@@ -30,9 +30,6 @@ mul-a : tie.Need-mul-a Inv-loop μ-loop
 unfolding recordsLength
 mul-a c = omega arith
 
-mul-pages : tie.Need-mul-pages Inv-loop μ-loop
-mul-pages c = omega (arith, bounded (c .before .before .args .g) (c .before .before .pre .0 .limited))
-
 add-word-at : tie.Need-add-word-at Inv-loop μ-loop
 unfolding recordsLength
 add-word-at c = omega arith
@@ -73,9 +70,6 @@ loop-holds : tie.Need-loop-holds Inv-loop μ-loop
 unfolding allBelow countBelow
 loop-holds c = (omega arith, refl, refl, omega arith)
 
-mul-number-at : tie.Need-mul-number-at Inv-loop μ-loop
-mul-number-at c = search needs
-
 add-number-at : tie.Need-add-number-at Inv-loop μ-loop
 unfolding recordsLength
 add-number-at c = omega arith
@@ -83,27 +77,6 @@ add-number-at c = omega arith
 number-at-requires : tie.Need-number-at-requires Inv-loop μ-loop
 unfolding recordsLength
 number-at-requires c κs = omega arith
-
-add-next : tie.Need-add-next Inv-loop μ-loop
-add-next c = search needs
-
-cast-next : tie.Need-cast-next Inv-loop μ-loop
-cast-next c = search needs
-
-mul-low : tie.Need-mul-low Inv-loop μ-loop
-mul-low c = search needs
-
-element-copy-out-low : tie.Need-element-copy-out-low Inv-loop μ-loop
-element-copy-out-low c = search needs
-
-add-names-2 : tie.Need-add-names-2 Inv-loop μ-loop
-add-names-2 c = omega arith
-
-add-m : tie.Need-add-m Inv-loop μ-loop
-add-m c = search needs
-
-loop-less : tie.Need-loop-less Inv-loop μ-loop
-loop-less c = omega arith
 
 -- what the branch adds
 with-page : (c : tie.Joined2 Inv-loop μ-loop)
@@ -124,9 +97,6 @@ loop-again c =
       rw (with-page c, number, loop .inv .2, add-one (loop .m), count-more (loop .m) (givenIn (a .records .now) (a .j * 32))),
       ⊎-elim (λ w. omega arith) (λ w. omega arith) (c .if2 .came),
     )
-
-add-names-3 : tie.Need-add-names-3 Inv-loop μ-loop
-add-names-3 c = omega arith
 
 -- after the loop the look is whole; count is the names with the parity page
 whole : (c : tie.After-loop Inv-loop μ-loop) {count : ℕ}
@@ -164,7 +134,7 @@ glance-at-spec =
     Inv-loop
     μ-loop
     mul-a
-    mul-pages
+    (λ c. omega (arith, bounded (c .before .before .args .g) (c .before .before .pre .0 .limited)))
     add-word-at
     word-at-requires
     add-word-at-2
@@ -173,17 +143,17 @@ glance-at-spec =
     add-names
     returns
     loop-holds
-    mul-number-at
+    (λ c. search needs)
     add-number-at
     number-at-requires
-    add-next
-    cast-next
-    mul-low
-    element-copy-out-low
-    add-names-2
-    add-m
-    loop-less
+    (λ c. search needs)
+    (λ c. search needs)
+    (λ c. search needs)
+    (λ c. search needs)
+    (λ c. omega arith)
+    (λ c. search needs)
+    (λ c. omega arith)
     loop-again
-    add-names-3
+    (λ c. omega arith)
     returns-2
     returns-3)

@@ -14,33 +14,12 @@ Inv-loop n pages tops₀ m₀ tops m = (m ≤ n) × Ranges m pages tops
 abbrev μ-loop : tie.MeasureT-loop
 μ-loop n pages tops₀ m₀ tops m = n - m
 
-mul-pages : tie.Need-mul-pages Inv-loop μ-loop
-mul-pages c = omega (arith, bounded (c .before .args .g) (c .before .pre))
-
-cast-pages : tie.Need-cast-pages Inv-loop μ-loop
-cast-pages c = omega (arith, bounded (c .before .args .g) (c .before .pre))
-
 loop-holds : tie.Need-loop-holds Inv-loop μ-loop
 loop-holds c = (omega arith, tops-none)
 
 -- a member has a place among the eight
 member : (c : tie.In-loop Inv-loop μ-loop) → c .before .loop .m < 8
 member c = let start = c .before .before .before in omega (arith, bounded (start .args .g) (start .pre))
-
-mul-tops : tie.Need-mul-tops Inv-loop μ-loop
-mul-tops c = omega (arith, member c)
-
-array-write-tops : tie.Need-array-write-tops Inv-loop μ-loop
-array-write-tops c = member c
-
-add-m : tie.Need-add-m Inv-loop μ-loop
-add-m c = omega (arith, member c)
-
-loop-less : tie.Need-loop-less Inv-loop μ-loop
-loop-less c = omega arith
-
-loop-again : tie.Need-loop-again Inv-loop μ-loop
-loop-again c = (omega arith, tops-more (c .before .loop .inv .1) (member c))
 
 returns : tie.Need-returns Inv-loop μ-loop
 returns c = let all : c .before .loop .m ≡ c .before .before .before .args .g .n = omega arith in rw all at (c .before .loop .inv .1)
@@ -51,12 +30,12 @@ ranges-spec =
     (tie.spec
     Inv-loop
     μ-loop
-    mul-pages
-    cast-pages
+    (λ c. omega (arith, bounded (c .before .args .g) (c .before .pre)))
+    (λ c. omega (arith, bounded (c .before .args .g) (c .before .pre)))
     loop-holds
-    mul-tops
-    array-write-tops
-    add-m
-    loop-less
-    loop-again
+    (λ c. omega (arith, member c))
+    (λ c. member c)
+    (λ c. omega (arith, member c))
+    (λ c. omega arith)
+    (λ c. (omega arith, tops-more (c .before .loop .inv .1) (member c)))
     returns)
