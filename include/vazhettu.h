@@ -28,7 +28,7 @@
  * may go between any two. In both the holding memory keeps its bytes. docs/INTEGRATION.md says how.
  *
  * What a call needs: no alignment of any buffer, no memory but the buffers and less than 16 KB of stack (measured), and of the C
- * library memcpy, memmove and memset. It does no input or output, keeps nothing from one call to the next, and always ends. So
+ * library memcpy and memset. It does no input or output, keeps nothing from one call to the next, and always ends. So
  * calls on different stores may be made at once, from threads or interrupts, and so may reads of one store, as long as no other
  * call has its buffers. Only a format may be given memory that nobody has written yet; the slots may stay so after it. Every
  * other call looks at each record, and at the spare bytes of each page but the lost chip's: its time grows with the store.

@@ -1,5 +1,6 @@
 //! One page of a stripe, fetched in its role: XORed into a buffer, from the other chips where its own is lost.
 
+use bytes::copy;
 use bytes::fill;
 use bytes::xor_into;
 use codec::NONE;
@@ -255,7 +256,7 @@ pub fn fetch(
     }
 }
 
-// The buffer becomes member m of stripe j.
+// The buffer becomes member m of stripe j. On the lost chip it is gathered in a work page.
 pub fn read_member(
     buffer: &mut [u8],
     chips: &[u8],
@@ -271,7 +272,14 @@ pub fn read_member(
     ensures { λ r. ⌜ record { bytes = now (buffer .exit); reads = r .reads; origin = r .origin }
         ≡ fetchMember (layoutOf g) (images (now (chips .entry)) (now (records .entry)) (now (slots .entry))) lost j m ⌝ }
 {
-    fill(buffer, 0);
     let e = record_at(records, g, j);
-    fetch(buffer, chips, slots, g, lost, j, e, Role::Current(m))
+    if member_chip(g, j, m) != lost {
+        fill(buffer, 0);
+        return fetch(buffer, chips, slots, g, lost, j, e, Role::Current(m));
+    }
+    let mut work = [0u8; 4096];
+    let w = g.w as usize;
+    let got = fetch(&mut work[0..w], chips, slots, g, lost, j, e, Role::Current(m));
+    copy(buffer, &work[0..w]);
+    got
 }
