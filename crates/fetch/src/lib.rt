@@ -279,7 +279,16 @@ pub fn read_member(
     }
     let mut work = [0u8; 4096];
     let w = g.w as usize;
-    let got = fetch(&mut work[0..w], chips, slots, g, lost, j, e, Role::Current(m));
+    let got = fetch(
+        &mut work[0..w],
+        chips,
+        slots,
+        g,
+        lost,
+        j,
+        e,
+        Role::Current(m),
+    );
     copy(buffer, &work[0..w]);
     got
 }
