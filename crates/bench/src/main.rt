@@ -3,6 +3,7 @@
 use commands::Command;
 use commands::parse;
 use layout::Geometry;
+use layout::NO_CHIP;
 use rules::Answer;
 use rules::Reading;
 use rules::Refusal;
@@ -10,8 +11,6 @@ use steps::Counts;
 ghost use Prim.Native.Nat.{_≤_};
 
 const ALLOWANCE: u64 = 65535;
-
-const NO_CHIP: u64 = 255;
 
 // Chips of 1920 bytes, records of 224, slots of 48.
 fn geometry() -> Geometry {
@@ -172,7 +171,7 @@ fn next_line(line: &mut [u8; 11]) -> usize
 // lines down, from a number that no run uses up.
 fn obey_all(chips: &mut [u8], records: &mut [u8], slots: &mut [u8]) {
     let mut line = [0u8; 11];
-    let mut lost = NO_CHIP;
+    let mut lost = NO_CHIP as u64;
     let mut lines = u64::MAX;
     while 0 < lines {
         let n = next_line(&mut line);

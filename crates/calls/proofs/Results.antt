@@ -7,8 +7,8 @@ use mathlib.Core.Logic.{_≢_}
 use mathlib.Core.Bool.{Bool, true, false}
 use mathlib.Core.List.{List, [], _∷_, _++_}
 use lib.ListN.{length}
-use lib.Dec.{ltb, leb, eqb}
-use borrow.Author.Tests.{eq-eqb, ltb-true, eqb-true}
+use lib.Dec.{ltb, leb}
+use borrow.Author.Tests.{eq-eqb, eqb-true}
 use Rattle.ranges.specs.declared.Found.{Found}
 use Rattle.ranges.specs.declared.Found.the-variants.{At, Nothing}
 use Rattle.ranges.specs.Look.{whenFound}
@@ -16,11 +16,11 @@ use Rattle.layout.specs.declared.Geometry.{Geometry}
 use Rattle.layout.specs.Layout.{Layout, layoutOf, noChip}
 use Rattle.layout.specs.Page.{pageAt}
 use Rattle.layout.specs.Record.{recordAt, hasSlot}
-use Rattle.layout.specs.Images.{Images, slotAt}
+use Rattle.layout.specs.Images.{Images}
 use Rattle.layout.proofs.Limits.{Within, places-most, blocks-most}
 use Rattle.layout.proofs.Rotations.{stripe-fits, member-fits}
 use Rattle.steps.specs.declared.Progress.{Progress}
-use Rattle.steps.specs.Steps.{Step, noCounts}
+use Rattle.steps.specs.Steps.{noCounts}
 use Rattle.steps.specs.Allowance.{started, Sane, Ran}
 use Rattle.steps.proofs.Allowances.{ran-none}
 use Rattle.rules.specs.declared.Refusal.{Refusal}
@@ -32,20 +32,17 @@ use Rattle.rules.specs.declared.Reading.the-variants.{Done as ReadDone, Refused
 use Rattle.rules.specs.Open.{finishSteps, openSteps}
 use Rattle.rules.specs.Read.{fetchMember, fetch}
 use Rattle.rules.specs.Format.{formatSteps}
-use Rattle.rules.specs.Collect.{victimOf, collectSteps}
+use Rattle.rules.specs.Collect.{victimOf, collectBlock, collectSteps}
+use Rattle.collect.proofs.Rooms.{collect-found}
 use Rattle.rules.specs.Commit.{commitSteps}
 use Rattle.rules.specs.Write.{writeMember, writeSteps}
 use Rattle.rules.specs.Refusals.{Row, unless, checked, pageRows, chipSetRow, collectableOn, buffersRows, imagesRows, settledRows, readRows, writeRows, commitRows, collectRows}
-use Rattle.rules.specs.Calls.{Outcome, ReadOutcome, readInto, outcome, readOutcome, formatCall, openCall, readCall, writeCall, commitCall, collectCall}
+use Rattle.rules.specs.Calls.{Outcome, ReadOutcome, readInto, formatCall, openCall, readCall, writeCall, commitCall, collectCall}
 use Rattle.rules.proofs.Soundness.Table.{rows-passed, below-passed, below-failed, both-passed}
 use Rattle.rules.proofs.Soundness.Accepted.{write-accepted}
 use Rattle.rules.proofs.Lists.Lengths.{format-length, finish-length, collect-length, commit-length, write-length}
 use Rattle.rules.proofs.Lists.EachCall.{open-lost}
 use Rattle.rules.proofs.Lists.Answers.{answerOf, call-refused, call-ran}
-use Rattle.codec.specs.Fit.{ChipsFit, RecordsFit, SlotsFit}
-use Rattle.names.specs.Checked.{Settled}
-use Rattle.records.specs.Slots.{slotScan}
-use Rattle.space.specs.Victims.{Victims}
 use Rattle.looks.specs.declared.Look.{Look}
 use Rattle.looks.specs.Looks.{below, lookOf}
 use Rattle.looks.proofs.Passing.{rows-below, rows-told, PageReady, page-ready, Ready, ready}
@@ -101,6 +98,20 @@ short k n h low = omega arith
 abbrev pub freeRows : Bool → ℕ → List Row
 freeRows fits lost = (fits, Request) ∷ chipSetRow lost ∷ []
 
+-- what a write relies on whose rows have passed
+pub record WriteReady (g : Geometry) (s : Images) (lost page : ℕ) (xs : List ℕ) (look : Look) : Type 0 where
+  pub rows : checked (writeRows (layoutOf g) s lost page xs) ≡ Passed
+  pub ready : Ready g s look
+  pub stripe : page / g .n < g .s
+  pub member : page % g .n < g .n
+  pub whole : length xs ≡ g .w
+
+-- and a commit or a collect whose rows up to row 9 have passed
+pub record FreeReady (g : Geometry) (s : Images) (lost : ℕ) (fits : Bool) (look : Look) : Type 0 where
+  pub rows : checked (settledRows (layoutOf g) s lost ++ freeRows fits lost) ≡ Passed
+  pub ready : Ready g s look
+  pub fit : fits ≡ true
+
 module _ (g : Geometry) (s : Images) (lost : ℕ) where
   abbrev l : Layout
   l = layoutOf g
@@ -143,38 +154,46 @@ module _ (g : Geometry) (s : Images) (lost : ℕ) where
         f ∙ rw (rows-told l s lost (settledRows l s lost) (pageRows l page (length xs)) seen e)
         (sym (rows-below (settledRows l s lost ++ pageRows l page (length xs)) (chipSetRow lost ∷ [])))
 
-    pub write-ready : {look : Look} → look ≡ lookOf l s lost (checked (settledRows l s lost)) → checked (writeRows l s lost page xs) ≡ Passed
-        → Ready g s look × (page / g .n < g .s) × (page % g .n < g .n) × (length xs ≡ g .w)
+    pub write-ready : {look : Look} {k : Check} → look ≡ lookOf l s lost (checked (settledRows l s lost)) → k ≡ checked (writeRows l s lost page xs) → k ≡ Passed
+        → WriteReady g s lost page xs look
     unfolding writeRows
-    write-ready seen e =
+    write-ready seen told passed =
+        let e = sym told ∙ passed in
         let (none-lost, o) = write-accepted l s lost page xs e in
         let above = both-passed (settledRows l s lost ++ pageRows l page (length xs)) (chipSetRow lost ∷ []) e .0 in
         let top = both-passed (settledRows l s lost) (pageRows l page (length xs)) above .0 in
-        (ready g s lost seen top none-lost, stripe-fits l (o .settled .within) page (o .page), member-fits l (o .settled .within) page, o .whole)
+        record {
+          rows = e;
+          ready = ready g s lost seen top none-lost;
+          stripe = stripe-fits l (o .settled .within) page (o .page);
+          member = member-fits l (o .settled .within) page;
+          whole = o .whole;
+        }
 
     pub write-refused : (a : ℕ) (r : Refusal) → checked (writeRows l s lost page xs) ≡ Failed r
         → _≡_ {A = Outcome} (record { answer = Refused r; images = s }) (writeCall l s lost page xs a)
     unfolding writeCall
     write-refused a r e = call-refused l noCounts s a (writeSteps l page xs) (writeRows l s lost page xs) r e
 
-    pub write-ran : (a : ℕ) {p q : Progress} {t : Images} → checked (writeRows l s lost page xs) ≡ Passed → p ≡ started noCounts (min a (2 ^ 59))
+    pub write-ran : (a : ℕ) {look : Look} {p q : Progress} {t : Images} → WriteReady g s lost page xs look → p ≡ started noCounts (min a (2 ^ 59))
         → Ran l p (writeMember l (page / g .n) (page % g .n) xs s) q s t → _≡_ {A = Outcome} (record { answer = answerOf q; images = t }) (writeCall l s lost page xs a)
     unfolding writeCall writeSteps
     write-ran a e begun h =
-        let w = write-accepted l s lost page xs e .1 .settled .within in
-        call-ran l noCounts s a (writeSteps l page xs) (writeRows l s lost page xs) (writeSteps l page xs s) e refl (short (length (writeSteps l page xs s)) (l .K) (write-length l page xs s) (w .places-high)) begun h
+        call-ran l noCounts s a (writeSteps l page xs) (writeRows l s lost page xs) (writeSteps l page xs s) (e .rows) refl
+        (short (length (writeSteps l page xs s)) (l .K) (write-length l page xs s) (e .ready .store .within-limits .places-high)) begun h
 
   module _ (fits : Bool) where
     pub free-told : {look : Look} {k : Check} → look ≡ lookOf l s lost (checked (settledRows l s lost))
         → k ≡ below (look .check) (checked (freeRows fits lost)) → k ≡ checked (settledRows l s lost ++ freeRows fits lost)
     free-told seen e = rows-told l s lost (settledRows l s lost) (freeRows fits lost) seen e
 
-    pub free-ready : {look : Look} → look ≡ lookOf l s lost (checked (settledRows l s lost)) → checked (settledRows l s lost ++ freeRows fits lost) ≡ Passed
-        → Ready g s look × (fits ≡ true)
-    free-ready seen e =
+    pub free-ready : {look : Look} {k : Check} → look ≡ lookOf l s lost (checked (settledRows l s lost)) → k ≡ checked (settledRows l s lost ++ freeRows fits lost) → k ≡ Passed
+        → FreeReady g s lost fits look
+    free-ready seen told passed =
+        let e = sym told ∙ passed in
         let (top, rest) = both-passed (settledRows l s lost) (freeRows fits lost) e in
         let h = rows-passed (freeRows fits lost) rest in
-        (ready g s lost seen top (eqb-true lost noChip (h .1 .0)), h .0)
+        record { rows = e; ready = ready g s lost seen top (eqb-true lost noChip (h .1 .0)); fit = h .0 }
 
   module _ (j a : ℕ) where
     pub commit-refused : (r : Refusal) → checked (settledRows l s lost ++ freeRows (ltb j (g .s)) lost) ≡ Failed r
@@ -190,18 +209,17 @@ module _ (g : Geometry) (s : Images) (lost : ℕ) where
     unfolding commitRows
     commit-last slot e f = below-passed (settledRows l s lost ++ freeRows (ltb j (g .s)) lost) ((hasSlot (recordAt l (s .records) j), Work) ∷ []) e ∙ rw f
 
-    pub commit-slotless : checked (settledRows l s lost ++ freeRows (ltb j (g .s)) lost) ≡ Passed → hasSlot (recordAt l (s .records) j) ≡ false
-        → _≡_ {A = Outcome} (record { answer = Refused Work; images = s }) (commitCall l s lost j a)
-    unfolding commitCall
-    commit-slotless e f = call-refused l noCounts s a (commitSteps l j) (commitRows l s lost j) Work (commit-last false e f)
+    module _ {look : Look} (e : FreeReady g s lost (ltb j (g .s)) look) where
+      pub commit-slotless : hasSlot (recordAt l (s .records) j) ≡ false → _≡_ {A = Outcome} (record { answer = Refused Work; images = s }) (commitCall l s lost j a)
+      unfolding commitCall
+      commit-slotless f = call-refused l noCounts s a (commitSteps l j) (commitRows l s lost j) Work (commit-last false (e .rows) f)
 
-    pub commit-ran : {p q : Progress} {t : Images} → Within l → checked (settledRows l s lost ++ freeRows (ltb j (g .s)) lost) ≡ Passed
-        → hasSlot (recordAt l (s .records) j) ≡ true → p ≡ started noCounts (min a (2 ^ 59)) → Ran l p (commitSteps l j s) q s t
-        → _≡_ {A = Outcome} (record { answer = answerOf q; images = t }) (commitCall l s lost j a)
-    unfolding commitCall
-    commit-ran w e f begun h =
-        call-ran l noCounts s a (commitSteps l j) (commitRows l s lost j) (commitSteps l j s) (commit-last true e f) refl
-        (short (length (commitSteps l j s)) (l .K) (omega (arith, commit-length l j s)) (w .places-high)) begun h
+      pub commit-ran : {p q : Progress} {t : Images} → hasSlot (recordAt l (s .records) j) ≡ true → p ≡ started noCounts (min a (2 ^ 59))
+          → Ran l p (commitSteps l j s) q s t → _≡_ {A = Outcome} (record { answer = answerOf q; images = t }) (commitCall l s lost j a)
+      unfolding commitCall
+      commit-ran f begun h =
+          call-ran l noCounts s a (commitSteps l j) (commitRows l s lost j) (commitSteps l j s) (commit-last true (e .rows) f) refl
+          (short (length (commitSteps l j s)) (l .K) (omega (arith, commit-length l j s)) (e .ready .store .within-limits .places-high)) begun h
 
   module _ (c a : ℕ) where
     abbrev victim : Found
@@ -220,15 +238,15 @@ module _ (g : Geometry) (s : Images) (lost : ℕ) where
     unfolding collectRows
     collect-last found e f = below-passed (settledRows l s lost ++ freeRows (leb c (g .n)) lost) ((collectableOn l s c, Work) ∷ []) e ∙ rw f
 
-    pub collect-nothing : checked (settledRows l s lost ++ freeRows (leb c (g .n)) lost) ≡ Passed → victim ≡ Nothing
-        → _≡_ {A = Outcome} (record { answer = Refused Work; images = s }) (collectCall l s lost c a)
-    unfolding collectCall whenFound
-    collect-nothing e f = call-refused l noCounts s a (collectSteps l c) (collectRows l s lost c) Work (collect-last Nothing e f)
+    module _ {look : Look} (e : FreeReady g s lost (leb c (g .n)) look) where
+      pub collect-nothing : victim ≡ Nothing → _≡_ {A = Outcome} (record { answer = Refused Work; images = s }) (collectCall l s lost c a)
+      unfolding collectCall whenFound
+      collect-nothing f = call-refused l noCounts s a (collectSteps l c) (collectRows l s lost c) Work (collect-last Nothing (e .rows) f)
 
-    pub collect-ran : {p q : Progress} {t : Images} (v : ℕ) → Within l → checked (settledRows l s lost ++ freeRows (leb c (g .n)) lost) ≡ Passed
-        → victim ≡ At v → p ≡ started noCounts (min a (2 ^ 59)) → Ran l p (collectSteps l c s) q s t
-        → _≡_ {A = Outcome} (record { answer = answerOf q; images = t }) (collectCall l s lost c a)
-    unfolding collectCall whenFound
-    collect-ran v w e f begun h =
-        call-ran l noCounts s a (collectSteps l c) (collectRows l s lost c) (collectSteps l c s) (collect-last (At v) e f) refl
-        (short (length (collectSteps l c s)) (l .K) (omega (arith, collect-length l c s)) (w .places-high)) begun h
+      pub collect-ran : {p q : Progress} {t : Images} (v : ℕ) → victim ≡ At v → p ≡ started noCounts (min a (2 ^ 59))
+          → Ran l p (collectBlock l c v s) q s t → _≡_ {A = Outcome} (record { answer = answerOf q; images = t }) (collectCall l s lost c a)
+      unfolding collectCall whenFound
+      collect-ran {p} {q} {t} v f begun h =
+          let ran : Ran l p (collectSteps l c s) q s t = rw (collect-found l s c f) h in
+          call-ran l noCounts s a (collectSteps l c) (collectRows l s lost c) (collectSteps l c s) (collect-last (At v) (e .rows) f) refl
+          (short (length (collectSteps l c s)) (l .K) (omega (arith, collect-length l c s)) (e .ready .store .within-limits .places-high)) begun ran

@@ -2,6 +2,8 @@
 //! the run.
 
 use answers::answer;
+use codec::NO_SLOT;
+use codec::parity_chip;
 use codec::slot_at;
 use collect::collect_chip;
 use collect::finish;
@@ -10,6 +12,7 @@ use device::start;
 use fetch::read_member;
 use format::format_all;
 use layout::Geometry;
+use layout::NO_CHIP;
 use looks::also;
 use looks::buffers_check;
 use looks::images_look;
@@ -69,7 +72,7 @@ pub fn open(
     if let Check::Failed(r) = check {
         return Answer::Refused(r);
     }
-    if lost != 255 {
+    if lost != NO_CHIP as u64 {
         return answer(start(allowance));
     }
     answer(finish(chips, records, g, start(allowance)))
@@ -89,7 +92,7 @@ fn free_check(first: Check, fits: bool, lost: u64) -> Check
 {
     also(
         also(first, fits, Refusal::Request),
-        lost == 255,
+        lost == NO_CHIP as u64,
         Refusal::ChipSet,
     )
 }
@@ -143,7 +146,7 @@ pub fn write(
     let look = settled_look(g, chips, records, slots, lost as usize);
     let first = look.check;
     let above = page_check(first, g, page, bytes.len());
-    let check = also(above, lost == 255, Refusal::ChipSet);
+    let check = also(above, lost == NO_CHIP as u64, Refusal::ChipSet);
     if let Check::Failed(r) = check {
         return Answer::Refused(r);
     }
@@ -151,10 +154,13 @@ pub fn write(
     let m = (page % g.n) as usize;
     let scans = look.chips;
     let seen = look.slots;
+    let mut work = [0u8; 4096];
+    let w = g.w as usize;
     answer(write_member(
         chips,
         records,
         slots,
+        &mut work[0..w],
         g,
         j,
         m,
@@ -186,11 +192,14 @@ pub fn commit(
         return Answer::Refused(r);
     }
     let j = stripe as usize;
-    if slot_at(records, g, j) == 255 {
+    if slot_at(records, g, j) == NO_SLOT {
         return Answer::Refused(Refusal::Work);
     }
-    let scans = look.chips;
-    answer(commit_stripe(chips, records, slots, g, j, scans, start(allowance)))
+    let v = victim_in(look.chips[parity_chip(g, j)]);
+    let mut work = [0u8; 4096];
+    let w = g.w as usize;
+    let run = start(allowance);
+    answer(commit_stripe(chips, records, slots, &mut work[0..w], g, j, v, run))
 }
 
 // Collects a chip: one full block becomes clean.
@@ -214,9 +223,13 @@ pub fn collect(
         return Answer::Refused(r);
     }
     let c = chip as usize;
-    let scans = look.chips;
-    match victim_in(scans[c]) {
-        Found::At(v) => answer(collect_chip(chips, records, slots, g, c, v, start(allowance))),
+    match victim_in(look.chips[c]) {
+        Found::At(v) => {
+            let mut work = [0u8; 4096];
+            let w = g.w as usize;
+            let p = start(allowance);
+            answer(collect_chip(chips, records, slots, &mut work[0..w], g, c, v, p))
+        }
         Found::Nothing => Answer::Refused(Refusal::Work),
     }
 }

@@ -1,4 +1,4 @@
--- The tags and stripes of a block: where they stand in the chip image, and what the loop has fetched of them so far. The numbers of
+-- The tags and stripes of pages: where they stand in the chip image, and what the loop has fetched of them so far. The numbers of
 -- a record.
 use Prim.Native.Nat.{ℕ, _+_, _-_, _*_, _≤_, _<_}
 use native.Mathlib.Nat.{add-mul, mul-le-mul-right, le-refl, not-suc-le-zero}
@@ -59,7 +59,7 @@ module _ (g : Geometry) (limited : limits (layoutOf g) ≡ true) where
   place-low b i block place =
       let low = page-in-fits (layoutOf g) b i block place in (low, omega (arith, start-low (g .b) (le-refl (g .b))))
 
--- ---- the spares of a block
+-- ---- the spares of pages one behind another
 
 -- t is the tag that stands m pages of u bytes behind offset a
 abbrev pub TagAt : List ℕ → ℕ → ℕ → ℕ → ℕ → Type 0
@@ -69,29 +69,29 @@ TagAt chips a u m t = TagIs t (getD chips (a + m * u) 0) (getD chips (a + m * u 
 abbrev pub StripeAt : List ℕ → ℕ → ℕ → ℕ → ℕ → Type 0
 StripeAt chips a u m j = j ≡ number (part (a + m * u + 2) 2 chips)
 
--- chip c and block b are there
-module _ (g : Geometry) (chips : List ℕ) (fit : ChipsFit g chips) (c b : ℕ) (chip : c ≤ g .n) (block : b < g .b) where
-  -- the spare of place i of the block is i pages behind that of its first
-  spare-place : (i : ℕ) → offset g c (b * g .k) + g .w + i * (g .w + 8) ≡ offset g c (b * g .k + i) + g .w
+-- so many pages of chip c from p on are there
+module _ (g : Geometry) (chips : List ℕ) (fit : ChipsFit g chips) (c p n : ℕ) (chip : c ≤ g .n) (there : p + n ≤ pages (layoutOf g)) where
+  -- the spare of page p + i is i pages behind that of page p
+  spare-place : (i : ℕ) → offset g c p + g .w + i * (g .w + 8) ≡ offset g c (p + i) + g .w
   spare-place i =
-      let e : c * pages (layoutOf g) + (b * g .k + i) ≡ c * pages (layoutOf g) + b * g .k + i = omega arith in
+      let e : c * pages (layoutOf g) + (p + i) ≡ c * pages (layoutOf g) + p + i = omega arith in
       rw (e, add-mul) (omega arith)
 
   -- it ends within the image, and its offset is no large number
-  pub spare-within : (i : ℕ) → i < g .k
-      → let a = offset g c (b * g .k) + g .w + i * (g .w + 8) in (a + 4 ≤ length chips) × (a ≤ 1882689480)
+  pub spare-within : (i : ℕ) → i < n
+      → let a = offset g c p + g .w + i * (g .w + 8) in (a + 4 ≤ length chips) × (a ≤ 1882689480)
   spare-within i place =
-      let p = page-in-fits (layoutOf g) b i block place in
-      rw spare-place (rw (fit .long) (omega (arith, page-within g c (b * g .k + i) chip p)), omega (arith, page-high g c (b * g .k + i) chip p (fit .limited)))
+      let low : p + i < pages (layoutOf g) = omega arith in
+      rw spare-place (rw (fit .long) (omega (arith, page-within g c (p + i) chip low)), omega (arith, page-high g c (p + i) chip low (fit .limited)))
 
-  -- all tags and stripes from the first spare of the block on are those of its pages
+  -- all tags and stripes from the first spare on are those of the pages
   pub fetch-all : {tags stripes : List ℕ} {i : ℕ}
-      → Filled (TagAt chips (offset g c (b * g .k) + g .w) (g .w + 8)) tags i
-      → Filled (StripeAt chips (offset g c (b * g .k) + g .w) (g .w + 8)) stripes i
-      → i ≡ g .k
-      → StampsOf (layoutOf g) (pageAt (layoutOf g) chips c) b tags stripes
+      → Filled (TagAt chips (offset g c p + g .w) (g .w + 8)) tags i
+      → Filled (StripeAt chips (offset g c p + g .w) (g .w + 8)) stripes i
+      → i ≡ n
+      → StampsOf (pageAt (layoutOf g) chips c) p n tags stripes
   fetch-all h s e =
-      let page : (i : ℕ) → i < g .k → PageIn g chips c (b * g .k + i) = λ i place. page-in g chips c (b * g .k + i) (page-in-fits (layoutOf g) b i block place) in
+      let page : (i : ℕ) → i < n → PageIn g chips c (p + i) = λ i place. page-in g chips c (p + i) (omega arith) in
       record {
         tag = λ i place. rw (page i place .kind, page i place .member, ← spare-place i) (h .at i (rw e place));
         stripe = λ i place. rw (page i place .stripe, ← spare-place i) (s .at i (rw e place));

@@ -19,7 +19,6 @@ use Rattle.bytes.specs.Units.{part}
 use Rattle.bytes.proofs.Lists.{number-two}
 use Rattle.layout.specs.declared.Geometry.{Geometry}
 use Rattle.layout.specs.Layout.{layoutOf, limits, none}
-use Rattle.layout.proofs.Limits.{within}
 use Rattle.layout.specs.Images.{recordsLength}
 use Rattle.layout.specs.Record.{recordAt}
 use Rattle.codec.specs.Fit.{RecordsFit}

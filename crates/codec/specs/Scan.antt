@@ -9,12 +9,12 @@ use lib.Dec.{ltb, eqb}
 use Rattle.bytes.specs.Number.{number}
 use Rattle.bytes.specs.Units.{part}
 use Rattle.ranges.specs.Look.{countBelow}
-use Rattle.layout.specs.Layout.{Layout, none, isNone, pages, pageIn}
-use Rattle.layout.specs.Page.{Page}
+use Rattle.layout.specs.Layout.{Layout, none, isNone, pages}
+use Rattle.layout.specs.Page.{Page, cleanKind}
 use Rattle.layout.specs.Record.{Record, noSlot}
 use Rattle.codec.specs.declared.scan.Glance.{Glance}
 
--- ---- the pages of a block
+-- ---- the stamps of pages
 
 -- the tag t is the kind k and behind it the member m
 pub record TagIs (t k m : ℕ) : Type 0 where
@@ -26,18 +26,28 @@ tagOf k m = k + 256 * m
 
 -- the page with this tag is clean
 abbrev pub cleanTag : ℕ → Bool
-cleanTag t = eqb (t % 256) 255
+cleanTag t = eqb (t % 256) cleanKind
 
--- the tags and stripes of the pages of block b, with the chip's pages x
-pub record StampsOf (l : Layout) (x : ℕ → Page) (b : ℕ) (tags stripes : List ℕ) : Type 0 where
-  pub tag : (i : ℕ) → i < l .K → TagIs (getD tags i 0) (x (pageIn l b i) .kind) (x (pageIn l b i) .member)
-  pub stripe : (i : ℕ) → i < l .K → getD stripes i 0 ≡ x (pageIn l b i) .stripe
+-- the tags and stripes of so many pages from the first on, with the chip's pages x
+pub record StampsOf (x : ℕ → Page) (first count : ℕ) (tags stripes : List ℕ) : Type 0 where
+  pub tag : (i : ℕ) → i < count → TagIs (getD tags i 0) (x (first + i) .kind) (x (first + i) .member)
+  pub stripe : (i : ℕ) → i < count → getD stripes i 0 ≡ x (first + i) .stripe
 
 -- ---- the numbers of a record
 
--- number i of a record: six current pages, six old ones, the parity page
+-- the numbers of a record by their index: the current pages, from here on the old ones, here the parity page; and what is no index
+abbrev pub firstOld : ℕ
+firstOld = 6
+
+abbrev pub lastNumber : ℕ
+lastNumber = 12
+
+abbrev pub noIndex : ℕ
+noIndex = 255
+
+-- number i of a record
 unfoldable pub numberOf : Record → ℕ → ℕ
-numberOf r i = cond (ltb i 6) (r .current i) (cond (ltb i 12) (r .old (i - 6)) (r .parity))
+numberOf r i = cond (ltb i firstOld) (r .current i) (cond (ltb i lastNumber) (r .old (i - firstOld)) (r .parity))
 
 -- the first n numbers may be none or any page, and the others only none
 pub record Ranges (n pages : ℕ) (tops : List ℕ) : Type 0 where

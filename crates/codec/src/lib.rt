@@ -10,12 +10,13 @@ use bytes::number_at;
 use bytes::zeros;
 use layout::Geometry;
 ghost use mathlib.Core.Path.{_≡_};
+ghost use mathlib.Core.Logic.{_≢_};
 ghost use mathlib.Core.Bool.{true};
 ghost use Prim.Native.Nat.{ℕ, _+_, _*_, _/_, _%_, _^_, _≤_, _<_};
 ghost use lib.ListN.{length, getD};
 ghost use lib.Dec.{eqb};
 ghost use Rattle.layout.specs.Layout.{layoutOf, limits, pages};
-ghost use Rattle.layout.specs.Rotation.{parityChip, memberChip};
+ghost use Rattle.layout.specs.Rotation.{parityChip, memberChip, memberOn};
 ghost use Rattle.layout.specs.Page.{cleanKind, clean, pageAt};
 ghost use Rattle.layout.specs.Record.{recordAt};
 ghost use Rattle.layout.specs.Collection.{collectionAt};
@@ -24,11 +25,16 @@ ghost use Rattle.codec.specs.Fit.{ChipsFit, RecordsFit, SlotsFit};
 ghost use Rattle.codec.specs.Views.{recordFrom, ended, spareOf, sixAt, SmallRecord, SmallSpare, CollectionIs};
 
 // The bytes of a page number, and the number of no page.
-pub const WIDTH: usize = 2;
+const WIDTH: usize = 2;
 
 pub const NONE: usize = 65535;
+
+// The slot of a record without one.
+pub const NO_SLOT: usize = 255;
+// The bytes of a stripe's number in a spare, and of a block's in the collection record.
+const SHORT: usize = 2;
 // The bytes of a record, and where its fields are.
-pub const RECORD_BYTES: usize = 16 * WIDTH;
+const RECORD_BYTES: usize = 16 * WIDTH;
 
 const OLD_AT: usize = 6 * WIDTH;
 
@@ -42,20 +48,34 @@ const REST_AT: usize = SLOT_AT + 1;
 
 const REST_BYTES: usize = RECORD_BYTES - REST_AT;
 
-// Where the zeros of the collection record begin, and how many they are.
-const ZEROS_AT: usize = 6;
+// Where the fields of the collection record are: its chip behind the phase, then the blocks; where the zeros behind them begin, and
+// how many they are.
+const CHIP_AT: usize = 1;
+
+const VICTIM_AT: usize = 2;
+
+const DESTINATION_AT: usize = VICTIM_AT + SHORT;
+
+const ZEROS_AT: usize = DESTINATION_AT + SHORT;
 
 const ZEROS: usize = RECORD_BYTES - ZEROS_AT;
-// The spare bytes of a page, and their tail: two bytes of 255.
-pub const SPARE_BYTES: usize = 8;
+// The spare bytes of a page, and where its fields are: the member behind the kind, then stripe and page copied from. Behind these is
+// the tail: each of its bytes is 255, as an erase leaves it.
+const SPARE_BYTES: usize = 8;
 
-const TAIL_AT: usize = 4 + WIDTH;
+const MEMBER_AT: usize = 1;
+
+const STRIPE_AT: usize = 2;
+
+const COPIED_AT: usize = STRIPE_AT + SHORT;
+
+const TAIL_AT: usize = COPIED_AT + WIDTH;
 
 const TAIL_BYTES: usize = SPARE_BYTES - TAIL_AT;
 
 const TAIL: usize = 65535;
 // The kinds of pages.
-pub const CLEAN: u16 = 255;
+const CLEAN: u16 = 255;
 
 pub const DATA: usize = 68;
 
@@ -78,7 +98,7 @@ pub struct CollectionRecord {
     pub destination: usize,
 }
 
-// The spare bytes of a page, but for the last two.
+// The spare bytes of a page, but for the tail.
 pub struct Spare {
     pub kind: usize,
     pub member: usize,
@@ -109,8 +129,16 @@ pub fn member_chip(g: Geometry, j: usize, m: usize) -> usize
     if m < parity_chip(g, j) { m } else { m + 1 }
 }
 
+// The member of stripe j on chip c, where that is not the parity's.
+pub fn member_on(g: Geometry, j: usize, c: usize) -> usize
+    requires { ⌜ (limits (layoutOf g) ≡ true) × (c ≤ g .n) × (c ≢ parityChip (layoutOf g) j) ⌝ }
+    ensures { λ r. ⌜ (r ≡ memberOn (layoutOf g) j c) × (r < g .n) × (r < 6) ⌝ }
+{
+    if c < parity_chip(g, j) { c } else { c - 1 }
+}
+
 // The offset of page p of chip c in the chip image.
-pub fn page_offset(g: Geometry, c: usize, p: usize) -> usize
+fn page_offset(g: Geometry, c: usize, p: usize) -> usize
     requires { ⌜ (limits (layoutOf g) ≡ true) × (c ≤ g .n) × (p < pages (layoutOf g)) ⌝ }
     ensures { λ r. ⌜ (r ≡ (c * pages (layoutOf g) + p) * (g .w + 8)) × (r + (g .w + 8) ≤ chipsLength (layoutOf g)) ⌝ }
 {
@@ -129,14 +157,14 @@ pub fn spare_at(chips: &[u8], g: Geometry, c: usize, p: usize) -> Spare
     let a = page_offset(g, c, p) + w;
     Spare {
         kind: byte(chips, a),
-        member: byte(chips, a + 1),
-        stripe: number_at(chips, a + 2),
-        copied: number_at(chips, a + 4),
+        member: byte(chips, a + MEMBER_AT),
+        stripe: number_at(chips, a + STRIPE_AT),
+        copied: number_at(chips, a + COPIED_AT),
     }
 }
 
 // Whether a page of this kind is clean.
-pub fn is_clean_kind(kind: u16) -> bool
+fn is_clean_kind(kind: u16) -> bool
     ensures { λ r. ⌜ r ≡ eqb kind cleanKind ⌝ }
 {
     kind == CLEAN
@@ -180,11 +208,11 @@ fn six_at(s: &[u8], a: usize) -> [usize; 6]
 {
     [
         number_at(s, a),
-        number_at(s, a + 2),
-        number_at(s, a + 4),
-        number_at(s, a + 6),
-        number_at(s, a + 8),
-        number_at(s, a + 10),
+        number_at(s, a + WIDTH),
+        number_at(s, a + 2 * WIDTH),
+        number_at(s, a + 3 * WIDTH),
+        number_at(s, a + 4 * WIDTH),
+        number_at(s, a + 5 * WIDTH),
     ]
 }
 
@@ -230,9 +258,9 @@ pub fn collection_at(records: &[u8], g: Geometry) -> CollectionRecord
     let a = s * RECORD_BYTES;
     CollectionRecord {
         phase: byte(records, a),
-        chip: byte(records, a + 1),
-        victim: number_at(records, a + 2),
-        destination: number_at(records, a + 4),
+        chip: byte(records, a + CHIP_AT),
+        victim: number_at(records, a + VICTIM_AT),
+        destination: number_at(records, a + DESTINATION_AT),
     }
 }
 

@@ -1,5 +1,7 @@
 //! Rows 1 and 2 of the table: the limits of a geometry, and the lengths of the images.
 
+use super::NO_SLOT;
+use super::NONE;
 use super::RECORD_BYTES;
 use super::SPARE_BYTES;
 use layout::Geometry;
@@ -8,23 +10,44 @@ ghost use mathlib.Core.Bool.{true};
 ghost use Rattle.layout.specs.Layout.{layoutOf, limits};
 ghost use Rattle.layout.specs.Images.{lengths};
 
+// The limits of document 01. The data of a page are some units. The largest number of a page and of a slot stand for none.
+const MOST_MEMBERS: u64 = 6;
+
+const UNIT: u64 = 16;
+
+const MOST_BYTES: u64 = 4096;
+
+const MOST_PLACES: u64 = 128;
+
+const MOST_BLOCKS: u64 = 1024;
+
+const MOST_PAGES: u64 = NONE as u64;
+
+const MOST_STRIPES: u64 = 65535;
+
+const MOST_PARTIALS: u64 = NO_SLOT as u64 - 1;
+
 // Whether the geometry is within the limits. No product is formed before its factors are known to be small.
 pub fn geometry_passes(g: Geometry) -> bool
     ensures { λ r. ⌜ r ≡ limits (layoutOf g) ⌝ }
 {
     let sizes = (2 <= g.n)
-        & (g.n <= 6)
-        & (16 <= g.w)
-        & (g.w <= 4096)
-        & (g.w % 16 == 0)
+        & (g.n <= MOST_MEMBERS)
+        & (UNIT <= g.w)
+        & (g.w <= MOST_BYTES)
+        & (g.w % UNIT == 0)
         & (2 <= g.k)
-        & (g.k <= 128)
+        & (g.k <= MOST_PLACES)
         & (2 <= g.b)
-        & (g.b <= 1024);
+        & (g.b <= MOST_BLOCKS);
     if !sizes {
         return false;
     }
-    let counts = (g.b * g.k <= 65535) & (1 <= g.s) & (g.s <= 65535) & (1 <= g.m) & (g.m <= 254);
+    let counts = (g.b * g.k <= MOST_PAGES)
+        & (1 <= g.s)
+        & (g.s <= MOST_STRIPES)
+        & (1 <= g.m)
+        & (g.m <= MOST_PARTIALS);
     if !counts {
         return false;
     }

@@ -1,19 +1,26 @@
 //! Pages, slots and records put into their images.
 
 use super::BITMAP_AT;
+use super::CHIP_AT;
+use super::COPIED_AT;
 use super::CollectionRecord;
+use super::DESTINATION_AT;
+use super::MEMBER_AT;
 use super::OLD_AT;
 use super::PARITY_AT;
 use super::RECORD_BYTES;
 use super::REST_AT;
 use super::REST_BYTES;
+use super::SHORT;
 use super::SLOT_AT;
 use super::SPARE_BYTES;
+use super::STRIPE_AT;
 use super::Spare;
 use super::StripeRecord;
 use super::TAIL;
 use super::TAIL_AT;
 use super::TAIL_BYTES;
+use super::VICTIM_AT;
 use super::WIDTH;
 use super::ZEROS;
 use super::ZEROS_AT;
@@ -22,20 +29,21 @@ use bytes::copy;
 use bytes::fill;
 use layout::Geometry;
 ghost use mathlib.Core.Path.{_≡_};
-ghost use mathlib.Core.Bool.{true};
-ghost use mathlib.Core.List.{_++_};
-ghost use Prim.Native.Nat.{ℕ, _+_, _*_, _≤_, _<_};
+ghost use Prim.Native.Nat.{_+_, _*_, _≤_, _<_};
 ghost use lib.ListN.{length, getD, replicate};
 ghost use Rattle.bytes.specs.Number.{digits};
 ghost use Rattle.bytes.specs.Units.{put, unitPut};
 ghost use Rattle.layout.specs.Layout.{layoutOf, pages, pageBytes, recordBytes};
-ghost use Rattle.layout.specs.Page.{blankTail, bytesOfPage};
+ghost use Rattle.layout.specs.Page.{bytesOfPage};
 ghost use Rattle.layout.specs.Record.{row, bytesOfRecord, emptyRecord};
 ghost use Rattle.layout.specs.Collection.{bytesOfCollection};
 ghost use Rattle.steps.specs.Store.{programmed, erased, recorded};
 ghost use Rattle.codec.specs.Fit.{ChipsFit, RecordsFit, SlotsFit};
 ghost use Rattle.codec.specs.Firsts.{firstUnits};
 ghost use Rattle.codec.specs.Views.{recordFrom, collectionFrom, pageFrom, spareFrom, SmallRecord, SmallSpare};
+
+// What an erase makes of every byte.
+const ERASED: u8 = 255;
 
 // The number, in as many bytes as there are.
 fn fill_number(dst: &mut [u8], x: usize)
@@ -90,9 +98,9 @@ fn fill_collection(dst: &mut [u8], co: CollectionRecord)
     ensures { λ _. ⌜ ((g : Geometry) → now (dst .exit) ≡ bytesOfCollection (layoutOf g) (collectionFrom co)) ⌝ }
 {
     put_number(dst, 0, 1, co.phase);
-    put_number(dst, 1, 1, co.chip);
-    put_number(dst, 2, 2, co.victim);
-    put_number(dst, 4, 2, co.destination);
+    put_number(dst, CHIP_AT, 1, co.chip);
+    put_number(dst, VICTIM_AT, SHORT, co.victim);
+    put_number(dst, DESTINATION_AT, SHORT, co.destination);
     put_number(dst, ZEROS_AT, ZEROS, 0);
 }
 
@@ -102,9 +110,9 @@ fn fill_spare(dst: &mut [u8], t: Spare)
     ensures { λ _. ⌜ now (dst .exit) ≡ spareFrom t ⌝ }
 {
     put_number(dst, 0, 1, t.kind);
-    put_number(dst, 1, 1, t.member);
-    put_number(dst, 2, 2, t.stripe);
-    put_number(dst, 4, WIDTH, t.copied);
+    put_number(dst, MEMBER_AT, 1, t.member);
+    put_number(dst, STRIPE_AT, SHORT, t.stripe);
+    put_number(dst, COPIED_AT, WIDTH, t.copied);
     put_number(dst, TAIL_AT, TAIL_BYTES, TAIL);
 }
 
@@ -139,7 +147,7 @@ pub fn put_clean_block(chips: &mut [u8], g: Geometry, c: usize, b: usize)
     let w = g.w as usize;
     let a = page_offset(g, c, b * k);
     let e = a + k * (w + SPARE_BYTES);
-    fill(&mut chips[a..e], 255);
+    fill(&mut chips[a..e], ERASED);
 }
 
 // The first n blocks of the image become clean: chips stand end to end.
@@ -150,7 +158,7 @@ pub fn put_clean_blocks(chips: &mut [u8], g: Geometry, n: usize)
     let k = g.k as usize;
     let w = g.w as usize;
     let e = n * (k * (w + SPARE_BYTES));
-    fill(&mut chips[0..e], 255);
+    fill(&mut chips[0..e], ERASED);
 }
 
 // Slot i becomes the bytes.

@@ -1,6 +1,12 @@
 //! Many pages or records looked at in one go, as the checks do.
 
+use crate::MEMBER_AT;
 use crate::NONE;
+use crate::PARITY_AT;
+use crate::RECORD_BYTES;
+use crate::SPARE_BYTES;
+use crate::STRIPE_AT;
+use crate::WIDTH;
 use crate::is_clean_kind;
 use crate::page_offset;
 use bytes::byte;
@@ -8,14 +14,14 @@ use bytes::number_at;
 use layout::Geometry;
 ghost use mathlib.Core.Path.{_≡_};
 ghost use mathlib.Core.Bool.{true};
-ghost use Prim.Native.Nat.{ℕ, _+_, _*_, _≤_, _<_};
+ghost use Prim.Native.Nat.{_+_, _*_, _≤_, _<_};
 ghost use lib.ListN.{length, getD};
 ghost use Rattle.ranges.specs.Look.{allBelow};
 ghost use Rattle.layout.specs.Layout.{layoutOf, limits, pages};
 ghost use Rattle.layout.specs.Page.{pageAt};
 ghost use Rattle.layout.specs.Record.{recordAt};
 ghost use Rattle.codec.specs.Fit.{ChipsFit, RecordsFit};
-ghost use Rattle.codec.specs.Scan.{TagIs, tagOf, cleanTag, StampsOf, numberOf, Ranges, WordAt, writtenIn, Glanced};
+ghost use Rattle.codec.specs.Scan.{TagIs, tagOf, cleanTag, StampsOf, lastNumber, numberOf, Ranges, WordAt, writtenIn, Glanced};
 
 // The numbers of a record by their index: from 0 on the current pages, then the old ones, then the parity page. No index stands for no
 // number.
@@ -27,10 +33,10 @@ pub const NO_INDEX: usize = 255;
 
 // Number i of the record of stripe j.
 pub fn number_in(records: &[u8], g: Geometry, j: usize, i: usize) -> usize
-    requires { ⌜ RecordsFit g (now records) × (j < g .s) × (i ≤ 12) ⌝ }
+    requires { ⌜ RecordsFit g (now records) × (j < g .s) × (i ≤ lastNumber) ⌝ }
     ensures { λ r. ⌜ (r ≡ numberOf (recordAt (layoutOf g) (now (records .entry)) j) i) × (r < 65536) ⌝ }
 {
-    number_at(records, j * 32 + 2 * i)
+    number_at(records, j * RECORD_BYTES + WIDTH * i)
 }
 
 // The tag of a page: its kind, and behind it its member.
@@ -53,37 +59,41 @@ fn tag_at(chips: &[u8], a: usize) -> u16
     requires { ⌜ a + 2 ≤ length (now chips) ⌝ }
     ensures { λ r. ⌜ TagIs r (getD (now (chips .entry)) a 0) (getD (now (chips .entry)) (a + 1) 0) ⌝ }
 {
-    (byte(chips, a) + 256 * byte(chips, a + 1)) as u16
+    (byte(chips, a) + 256 * byte(chips, a + MEMBER_AT)) as u16
 }
 
-// The tags and stripes of the pages of block b of chip c. They are fetched before any is looked up in the records, so that no look waits
-// for the one before it.
+// The tags and stripes of so many pages of chip c, from page `first` on. They are fetched before any is looked up in the records, so that
+// no look waits for the one before it.
 pub fn fetch_stamps(
     chips: &[u8],
     g: Geometry,
     c: usize,
-    b: usize,
+    first: usize,
+    count: usize,
     tags: &mut [u16; 128],
     stripes: &mut [u16; 128],
 )
-    requires { ⌜ ChipsFit g (now chips) × (c ≤ g .n) × (b < g .b) × (length (now tags) ≡ 128) × (length (now stripes) ≡ 128) ⌝ }
-    ensures { λ _. ⌜ StampsOf (layoutOf g) (pageAt (layoutOf g) (now (chips .entry)) c) b (now (tags .exit)) (now (stripes .exit))
+    requires { ⌜ ChipsFit g (now chips) × (c ≤ g .n) × (first < pages (layoutOf g)) × (first + count ≤ pages (layoutOf g)) × (count ≤ 128)
+        × (length (now tags) ≡ 128) × (length (now stripes) ≡ 128) ⌝ }
+    ensures { λ _. ⌜ StampsOf (pageAt (layoutOf g) (now (chips .entry)) c) first count (now (tags .exit)) (now (stripes .exit))
         × (length (now (tags .exit)) ≡ 128) × (length (now (stripes .exit)) ≡ 128) ⌝ }
 {
-    let k = g.k as usize;
     let w = g.w as usize;
-    let first = page_offset(g, c, b * k) + w;
+    let start = page_offset(g, c, first) + w;
     let mut i = 0;
-    while i < k {
-        let a = first + i * (w + 8);
+    while i < count {
+        let a = start + i * (w + SPARE_BYTES);
         tags[i] = tag_at(chips, a);
-        stripes[i] = number_at(chips, a + 2) as u16;
+        stripes[i] = number_at(chips, a + STRIPE_AT) as u16;
         i += 1;
     }
 }
 
 // None, as a number of two bytes.
-const NO_PAGE: u16 = 65535;
+const NO_PAGE: u16 = NONE as u16;
+
+// Where the numbers behind the first eight of a record are: the last old ones.
+const NINTH_AT: usize = 8 * WIDTH;
 
 // Four numbers that are none.
 const NO_OLDS: usize = 18446744073709551615;
@@ -122,9 +132,9 @@ fn word_at(s: &[u8], a: usize) -> usize
     ensures { λ r. ⌜ WordAt (now (s .entry)) a r ⌝ }
 {
     number_at(s, a)
-        + 65536 * number_at(s, a + 2)
-        + 4294967296 * number_at(s, a + 4)
-        + 281474976710656 * number_at(s, a + 6)
+        + 65536 * number_at(s, a + WIDTH)
+        + 4294967296 * number_at(s, a + 2 * WIDTH)
+        + 281474976710656 * number_at(s, a + 3 * WIDTH)
 }
 
 // Whether all members are written, and nothing else among the eight numbers from offset a on: each is one of its pages, or none where
@@ -136,7 +146,7 @@ fn all_written(records: &[u8], a: usize, tops: &[u16; 8]) -> bool
     let mut written = true;
     let mut i = 0;
     while i < 8 {
-        let x = number_at(records, a + 2 * i) as u16;
+        let x = number_at(records, a + WIDTH * i) as u16;
         let top = tops[i];
         written = written & ((x < top) | ((x == NO_PAGE) & (top == 0)));
         i += 1;
@@ -150,10 +160,10 @@ pub fn glance_at(records: &[u8], g: Geometry, j: usize, tops: &[u16; 8]) -> Glan
     requires { ⌜ RecordsFit g (now records) × (j < g .s) × Ranges (g .n) (g .b * g .k) (now tops) ⌝ }
     ensures { λ r. ⌜ Glanced (layoutOf g) (recordAt (layoutOf g) (now (records .entry)) j) r ⌝ }
 {
-    let a = j * 32;
+    let a = j * RECORD_BYTES;
     let pages = (g.b * g.k) as usize;
-    let last = word_at(records, a + 24);
-    let olds = word_at(records, a + 16);
+    let last = word_at(records, a + PARITY_AT);
+    let olds = word_at(records, a + NINTH_AT);
     let parity = last % 65536;
     // most records are full, and there is nothing to count
     let rest = (olds == NO_OLDS) & (last / 65536 == NO_PARTIAL) & (parity < pages);
@@ -168,7 +178,7 @@ pub fn glance_at(records: &[u8], g: Geometry, j: usize, tops: &[u16; 8]) -> Glan
     let mut m = 0;
     while m < 8 {
         // none is the largest number, and the next one is 0
-        let next = ((number_at(records, a + 2 * m) + 1) % 65536) as u16;
+        let next = ((number_at(records, a + WIDTH * m) + 1) % 65536) as u16;
         low = low & (next <= tops[m]);
         if next != 0 {
             names += 1;

@@ -3,6 +3,7 @@
 use codec::CollectionRecord;
 use codec::StripeRecord;
 use codec::collection_at;
+use codec::member_on;
 use codec::parity_chip;
 use codec::record_at;
 use codec::spare_at;
@@ -21,14 +22,13 @@ ghost use mathlib.Core.Bool.{true};
 ghost use mathlib.Core.List.{List};
 ghost use Prim.Native.Nat.{ℕ, _≤_, _<_};
 ghost use lib.ListN.{length};
-ghost use Rattle.ranges.specs.declared.Found.the-variants.{At};
 ghost use Rattle.layout.specs.Layout.{layoutOf, noChip, limits, pages};
 ghost use Rattle.layout.specs.Page.{pageAt};
 ghost use Rattle.layout.specs.Record.{recordAt};
 ghost use Rattle.layout.specs.Collection.{collectionAt};
 ghost use Rattle.layout.specs.Images.{slotsLength};
 ghost use Rattle.rules.specs.Open.{moved as movedTo, repointed, due, ending, moveSteps, finishSteps};
-ghost use Rattle.rules.specs.Collect.{victimOf, collectSteps};
+ghost use Rattle.rules.specs.Collect.{collectable, collectBlock};
 ghost use Rattle.rules.specs.Room.{roomSteps};
 ghost use Rattle.steps.specs.Steps.{thenBelow};
 ghost use Rattle.codec.specs.Fit.{ChipsFit, RecordsFit, SlotsFit};
@@ -49,13 +49,12 @@ fn repoint(g: Geometry, e: StripeRecord, c: usize, j: usize, p: usize, q: usize)
     requires { ⌜ (limits (layoutOf g) ≡ true) × (c ≤ g .n) × SmallRecord e × (q < 65536) ⌝ }
     ensures { λ r. ⌜ (recordFrom (layoutOf g) r ≡ repointed (layoutOf g) c j p q (recordFrom (layoutOf g) e)) × SmallRecord r ⌝ }
 {
-    let parity = parity_chip(g, j);
     let mut next = e;
-    if c == parity {
+    if c == parity_chip(g, j) {
         next.parity = moved(e.parity, p, q);
         return next;
     }
-    let m = if c < parity { c } else { c - 1 };
+    let m = member_on(g, j, c);
     next.current[m] = moved(e.current[m], p, q);
     next.old[m] = moved(e.old[m], p, q);
     next
@@ -178,25 +177,27 @@ pub fn finish(chips: &mut [u8], records: &mut [u8], g: Geometry, p: Progress) ->
     p
 }
 
-// Collects chip c, whose victim is block v.
+// Collects block v of chip c, which can be collected.
 pub fn collect_chip(
     chips: &mut [u8],
     records: &mut [u8],
     slots: &[u8],
+    work: &mut [u8],
     g: Geometry,
     c: usize,
     v: usize,
     p: Progress,
 ) -> Progress
     requires { ⌜ Settled g (now chips) (now records) × (c ≤ g .n) × Sane p
-        × (victimOf (layoutOf g) c (pageAt (layoutOf g) (now chips) c) (recordAt (layoutOf g) (now records)) ≡ At v) × SlotsFit g (now slots) ⌝ }
-    ensures { λ r. ⌜ ((zs : List ℕ) → length zs ≡ slotsLength (layoutOf g) → Ran (layoutOf g) p
-        (collectSteps (layoutOf g) c (images (now (chips .entry)) (now (records .entry)) zs))
-        r (images (now (chips .entry)) (now (records .entry)) zs) (images (now (chips .exit)) (now (records .exit)) zs)) ⌝ }
+        × (v < g .b) × (collectable (layoutOf g) c (pageAt (layoutOf g) (now chips) c) (recordAt (layoutOf g) (now records)) v ≡ true)
+        × SlotsFit g (now slots) × (length (now work) ≡ g .w) ⌝ }
+    ensures { λ r. ⌜ Ran (layoutOf g) p
+        (collectBlock (layoutOf g) c v (images (now (chips .entry)) (now (records .entry)) (now (slots .entry))))
+        r (images (now (chips .entry)) (now (records .entry)) (now (slots .entry))) (images (now (chips .exit)) (now (records .exit)) (now (slots .entry))) ⌝ }
 {
     match clean_block_on(chips, g, c) {
         Found::At(d) => {
-            let run = copy_block(chips, records, slots, g, c, v, d, p);
+            let run = copy_block(chips, records, slots, work, g, c, v, d, p);
             // past a cut there is no phase 2 to finish
             if run.cut {
                 return run;
@@ -212,21 +213,23 @@ pub fn make_room(
     chips: &mut [u8],
     records: &mut [u8],
     slots: &[u8],
+    work: &mut [u8],
     g: Geometry,
     c: usize,
     v: Found,
     p: Progress,
 ) -> Progress
-    requires { ⌜ Settled g (now chips) (now records) × (c ≤ g .n) × VictimFor g (now chips) (now records) c v × Sane p × SlotsFit g (now slots) ⌝ }
-    ensures { λ r. ⌜ ((zs : List ℕ) → length zs ≡ slotsLength (layoutOf g) → Ran (layoutOf g) p
-        (roomSteps (layoutOf g) c (images (now (chips .entry)) (now (records .entry)) zs))
-        r (images (now (chips .entry)) (now (records .entry)) zs) (images (now (chips .exit)) (now (records .exit)) zs)) ⌝ }
+    requires { ⌜ Settled g (now chips) (now records) × (c ≤ g .n) × VictimFor g (now chips) (now records) c v × Sane p
+        × SlotsFit g (now slots) × (length (now work) ≡ g .w) ⌝ }
+    ensures { λ r. ⌜ Ran (layoutOf g) p
+        (roomSteps (layoutOf g) c (images (now (chips .entry)) (now (records .entry)) (now (slots .entry))))
+        r (images (now (chips .entry)) (now (records .entry)) (now (slots .entry))) (images (now (chips .exit)) (now (records .exit)) (now (slots .entry))) ⌝ }
 {
     if let Found::At(_) = place_on(chips, g, c) {
         return p;
     }
     match v {
-        Found::At(b) => collect_chip(chips, records, slots, g, c, b, p),
+        Found::At(b) => collect_chip(chips, records, slots, work, g, c, b, p),
         Found::Nothing => p,
     }
 }

@@ -3,21 +3,19 @@ use Prim.Native.Nat.{ℕ, suc, _+_, _*_, _≤_, _<_}
 use native.Mathlib.Numerals.{add-one}
 use native.Mathlib.Omega.{arith}
 use mathlib.Core.Path.{_≡_, refl, sym, ap, _∙_}
-use mathlib.Core.Logic.{_≢_}
 use mathlib.Core.Bool.{true, false}
 use mathlib.Core.List.{List, [], _∷_, _++_}
-use lib.ListN.{length}
-use borrow.Author.Tests.{ne-eqb}
-use Rattle.bytes.specs.Xor.{_⊕_}
+use lib.ListN.{length, replicate}
+use Rattle.bytes.proofs.Xors.{xors-zeros-l}
 use Rattle.ranges.specs.declared.Found.the-variants.{At}
 use Rattle.ranges.specs.Look.{countBelow}
 use Rattle.ranges.proofs.Counts.{count-pass, count-fail, count-start, count-le}
 use Rattle.layout.specs.declared.Geometry.{Geometry}
-use Rattle.layout.specs.Layout.{Layout, layoutOf, none, noChip, pageIn}
+use Rattle.layout.specs.Layout.{Layout, layoutOf, noChip, pages, pageIn}
 use Rattle.layout.specs.Page.{Page, pageAt}
-use Rattle.layout.specs.Record.{Record, recordAt}
+use Rattle.layout.specs.Record.{recordAt}
 use Rattle.layout.specs.Collection.{collectionAt}
-use Rattle.layout.specs.Images.{Images, slotsLength}
+use Rattle.layout.specs.Images.{Images, chipsLength, slotsLength, slotAt}
 use Rattle.layout.proofs.Limits.{Within}
 use Rattle.layout.proofs.Pages.{page-in-fits, page-number, in-other-block}
 use Rattle.steps.specs.declared.Progress.{Progress}
@@ -27,17 +25,16 @@ use Rattle.steps.specs.Allowance.{Sane, Ran, images}
 use Rattle.steps.proofs.Prefixes.{leads-weaken}
 use Rattle.steps.proofs.Allowances.{ran-none, ran-append, ran-then, ran-below, ran-below-cut, ran-longer, ran-whole, ran-going}
 use Rattle.rules.specs.Blocks.{namedIn, lowestCleanBlock}
-use Rattle.rules.specs.Names.{roleOf, names}
-use Rattle.rules.specs.Gather.{readsAt}
-use Rattle.rules.specs.Fetch.{Fetched, fed, itself, fetchRole}
-use Rattle.rules.specs.Collect.{phase, copyOf, copyFrom, copySteps, copyFeed, victimOf}
+use Rattle.rules.specs.Names.{roleOf}
+use Rattle.rules.specs.Fetch.{Fetched, Feed, fed, fetchIn}
+use Rattle.rules.specs.Collect.{phase, copyOf, copyFrom, copySteps, copyFeed, collectable}
 use Rattle.rules.proofs.Soundness.Statements.{Usable, Sound, sound-chip}
 use Rattle.rules.proofs.Soundness.RecordChecks.{record-pass}
 use Rattle.rules.proofs.Stores.Kept.{Kept}
 use Rattle.rules.proofs.Stores.Names.{role-is, named-by, name-stamped}
-use Rattle.rules.proofs.Data.Contents.{bytes-page}
+use Rattle.rules.proofs.Data.Contents.{bytes-page, pages-whole}
 use Rattle.rules.proofs.Data.Feeds.{page-there}
-use Rattle.rules.proofs.Lists.Copying.{asStands, Chosen, Copied, begun, copies-below, copies-as-stand, blocks-differ}
+use Rattle.rules.proofs.Lists.Copying.{asStands, Chosen, Copied, begun, copies-below, copied-as-stands, copies-as-stand, blocks-differ}
 use Rattle.rules.proofs.Lists.Collecting.{chosen-on}
 use Rattle.codec.specs.declared.Spare.{Spare}
 use Rattle.codec.specs.Views.{spareOf, pageFrom}
@@ -49,25 +46,36 @@ use Rattle.names.specs.Stamps.{StampsPass}
 use Rattle.names.proofs.Statements.{usable, stamps-pass, sound, checked}
 
 -- a page that is fetched and programmed with its stamp is its copy
-pub copy-ran : (l : Layout) (c p q : ℕ) (x : ℕ → Page) (t : Spare) {ys : List ℕ} {reads : ℕ} (run r : Progress) (s u : Images) → ys ≡ x p .bytes → reads ≡ 1 → t ≡ spareOf (x p)
+pub copy-ran : (l : Layout) (c p q : ℕ) (x : ℕ → Page) (page : Feed) (t : Spare) {ys : List ℕ} {reads : ℕ} (run r : Progress) (s u : Images) → ys ≡ page .bytes → reads ≡ page .reads → t ≡ spareOf (x p)
     → Ran l run
     (record { reads = reads; store = program c q (pageFrom l ys (record { kind = t .kind; member = t .member; stripe = t .stripe; copied = p })) } ∷ [])
     r s u
-    → Ran l run (fed (asStands x p) (λ xs. program c q (copyOf l p (x p) xs)) ∷ []) r s u
-copy-ran l c p q x t run r s u data-same one stamp-same h = rw (data-same, one, stamp-same) at h
+    → Ran l run (fed page (λ xs. program c q (copyOf l p (x p) xs)) ∷ []) r s u
+copy-ran l c p q x page t run r s u data-same read stamp-same h = rw (data-same, read, stamp-same) at h
 
--- what is fetched in the role of page p is the page as it stands
-pub role-stands : (l : Layout) → Within l → (y : ℕ → ℕ → Page) (z : ℕ → List ℕ) (r : ℕ → Record) (c p j : ℕ) → c < l .N + 1 → p ≢ none l → names l r c p j ≡ true
-    → {before after : List ℕ} {g : Got} → Into (fetchRole l y z j (r j) noChip (roleOf l c j (r j) p)) before after g
-    → (after ≡ before ⊕ y c p .bytes) × (g .reads ≡ 1)
-unfolding readsAt
-role-stands l w y z r c p j chip is-page names-it {before} h =
-    let (on, number) = role-is l r c p j names-it is-page in
-    let there = page-there l w y z j (r j) (roleOf l c j (r j) p) (rw on chip) in
-    let stands : fetchRole l y z j (r j) noChip (roleOf l c j (r j) p) ≡ itself l y z j (r j) c p = rw (on, number) at there in (
-      h .bytes ∙ ap (λ (x : Fetched). before ⊕ x .bytes) stands ∙ ap (λ xs. before ⊕ xs) (bytes-page l y c p is-page),
-      h .reads ∙ ap (λ (x : Fetched). x .reads) stands ∙ rw (ne-eqb p (none l) is-page),
-    )
+-- what is fetched for the copy of page p into zeros is what the definition feeds it with: it is as long as a page, since it is that page
+module _ (l : Layout) (w : Within l) (s : Images) (c p : ℕ) (chip : c < l .N + 1) (page : p < pages l) (there : Copyable l (s .chips) (s .records) c p)
+    (long : length (s .chips) ≡ chipsLength l) where
+  abbrev stripe : ℕ
+  stripe = pageAt l (s .chips) c p .stripe
+
+  abbrev copied : Fetched
+  copied = fetchIn l s noChip stripe (roleOf l c stripe (recordAt l (s .records) stripe) p)
+
+  copied-whole : length (copied .bytes) ≡ l .W
+  unfolding fetchIn
+  copied-whole =
+      let is-page = page-number l w p page in
+      let (on, number) = role-is l (recordAt l (s .records)) c p stripe (there .named) is-page in
+      let stands = page-there l w (pageAt l (s .chips)) (slotAt l (s .slots)) stripe (recordAt l (s .records) stripe) (roleOf l c stripe (recordAt l (s .records) stripe) p) (rw on chip) in
+      ap (λ (x : Fetched). length (x .bytes)) (rw (on, number) at stands) ∙ ap length (bytes-page l (pageAt l (s .chips)) c p is-page) ∙ pages-whole l s long c p chip page
+
+  pub copy-fetched : {after : List ℕ} {g : Got} → Into copied (replicate (l .W) 0) after g
+      → (after ≡ copyFeed l c s p .bytes) × (g .reads ≡ copyFeed l c s p .reads) × (length after ≡ l .W)
+  unfolding copyFeed fetchIn
+  copy-fetched h =
+      let is = h .bytes ∙ xors-zeros-l (l .W) (copied .bytes) (omega (arith, copied-whole)) in
+      (is, h .reads, ap length is ∙ copied-whole)
 
 -- the copies of the places below i of the victim
 abbrev copiesBelow : Geometry → ℕ → ℕ → ℕ → ℕ → Images → List Step
@@ -142,7 +150,8 @@ module _ {g : Geometry} {records x₀ : List ℕ} {c v d : ℕ} {p : Progress} w
 pub record Begun (g : Geometry) (x₀ r₀ r₁ : List ℕ) (c v d : ℕ) (p p₁ : Progress) : Type 0 where
   pub settled : Settled g x₀ r₀
   pub chip : c ≤ g .n
-  pub victim : victimOf (layoutOf g) c (pageAt (layoutOf g) x₀ c) (recordAt (layoutOf g) r₀) ≡ At v
+  pub block : v < g .b
+  pub can : collectable (layoutOf g) c (pageAt (layoutOf g) x₀ c) (recordAt (layoutOf g) r₀) v ≡ true
   pub clean : lowestCleanBlock (layoutOf g) (pageAt (layoutOf g) x₀ c) ≡ At d
   pub first : (cs zs : List ℕ) → Ran (layoutOf g) p (plain (collection (phase 1 c v d)) ∷ []) p₁ (images cs r₀ zs) (images cs r₁ zs)
 
@@ -162,7 +171,7 @@ module _ {g : Geometry} {x₀ r₀ r₁ : List ℕ} {c v d : ℕ} {p p₁ : Prog
     f = sound g x₀ r₀ (b .settled .checked) zs e
 
     pub chosen : Chosen l s c v d
-    chosen = chosen-on l u s f (b .settled .at-rest) c (omega (arith, b .chip)) v d (b .victim) (b .clean)
+    chosen = chosen-on l u s f (b .settled .at-rest) c (omega (arith, b .chip)) v d (b .block) (b .can) (b .clean)
 
     -- the list of the first half, as the code comes to it
     copies-then : andThen l (plain (collection (phase 1 c v d)) ∷ []) (λ t. copiesBelow g c v d (g .k) t ++ (plain (collection (phase 2 c v d)) ∷ [])) s
@@ -229,6 +238,13 @@ module _ {g : Geometry} {x₀ r₀ r₁ : List ℕ} {c v d : ℕ} {p p₁ : Prog
               sound = rw stripe (record-pass l (r j) (t .stripes .stripe j low));
               named = rw stripe names-it;
             }
+
+        -- it is copied as it stands
+        pub copying-stands : (k : ℕ) → k < g .k → namedIn l (recordAt l r₁) c v k ≡ true → {to : ℕ} {r : Progress} {y : List ℕ}
+            → ((rs ws : List ℕ) → Ran l q (fed (copyFeed l c (images x r₁ zs) (v * g .k + k)) (λ xs. program c to (copyOf l (v * g .k + k) (pageAt l x c (v * g .k + k)) xs)) ∷ []) r (images x rs ws) (images y rs ws))
+            → (rs ws : List ℕ) → Ran l q (fed (asStands (pageAt l x c) (v * g .k + k)) (λ xs. program c to (copyOf l (v * g .k + k) (pageAt l x c (v * g .k + k)) xs)) ∷ []) r (images x rs ws) (images y rs ws)
+        copying-stands k place n h rs ws =
+            rw (copied-as-stands l u (images x r₁ zs) (state .0) c (omega (arith, b .chip)) (pageIn l v k) (page-number l (u .within) (pageIn l v k) (page-in-fits l v k (chosen .victim) place)) n) at (h rs ws)
 
         -- the victim's pages are as they were
         pub copying-still : (k : ℕ) → k < g .k → pageAt l x c (pageIn l v k) ≡ pageAt l x₀ c (pageIn l v k)

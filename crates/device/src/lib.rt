@@ -21,18 +21,16 @@ ghost use Rattle.steps.specs.Store.{program as programStore, erase as eraseStor
 ghost use Rattle.steps.specs.Steps.{plain, noCounts};
 ghost use Rattle.codec.specs.Fit.{ChipsFit, RecordsFit, SlotsFit};
 ghost use Rattle.codec.specs.Views.{recordFrom, collectionFrom, pageFrom, SmallRecord, SmallSpare};
-ghost use Rattle.steps.specs.Allowance.{started, countingAll, Sane, Ran, images};
+ghost use Rattle.steps.specs.Allowance.{mostReads, started, countingAll, Sane, Ran, images};
 
-// At the beginning of a call. No list is as long as 2^59 stores, so a larger allowance is as good as that, and eight reads for each
-// of them still fit a counter.
+// 2^59: no list has as many, and eight reads for each of them still fit a counter.
+const MOST_STORES: u64 = 576460752303423488;
+
+// At the beginning of a call. An allowance larger than any list is as good as the most.
 pub fn start(allowance: u64) -> Progress
     ensures { λ r. ⌜ (r ≡ started noCounts (min allowance (2 ^ 59))) × Sane r ⌝ }
 {
-    let left = if allowance < 576460752303423488 {
-        allowance
-    } else {
-        576460752303423488
-    };
+    let left = lesser(allowance, MOST_STORES);
     Progress {
         counts: Counts {
             reads: 0,
@@ -59,7 +57,7 @@ fn stop(p: Progress) -> Progress
 
 // One store more, for which so many pages were read, programmed and erased.
 fn count(p: Progress, reads: u64, programs: u64, erases: u64) -> Progress
-    requires { ⌜ Sane p × (0 < p .left) × (reads ≤ 8) × (programs ≤ 1) × (erases ≤ 1) ⌝ }
+    requires { ⌜ Sane p × (0 < p .left) × (reads ≤ mostReads) × (programs ≤ 1) × (erases ≤ 1) ⌝ }
     ensures { λ r. ⌜ r ≡ record {
       counts = record {
         reads = p .counts .reads + reads;
@@ -128,7 +126,7 @@ pub fn program(
     reads: u64,
     p: Progress,
 ) -> Progress
-    requires { ⌜ ChipsFit g (now chips) × (c ≤ g .n) × (q < pages (layoutOf g)) × (length (now bytes) ≡ g .w) × SmallSpare t × (reads ≤ 8) × Sane p ⌝ }
+    requires { ⌜ ChipsFit g (now chips) × (c ≤ g .n) × (q < pages (layoutOf g)) × (length (now bytes) ≡ g .w) × SmallSpare t × (reads ≤ mostReads) × Sane p ⌝ }
     ensures { λ r. ⌜ ((rs zs : List ℕ) → Ran (layoutOf g) p
         (record { reads = reads; store = programStore c q (pageFrom (layoutOf g) (now (bytes .entry)) t) } ∷ [])
         r (images (now (chips .entry)) rs zs) (images (now (chips .exit)) rs zs)) ⌝ }
@@ -162,7 +160,7 @@ pub fn store_slot(
     reads: u64,
     p: Progress,
 ) -> Progress
-    requires { ⌜ SlotsFit g (now slots) × (i ≤ g .m) × (length (now bytes) ≡ g .w) × (reads ≤ 8) × Sane p ⌝ }
+    requires { ⌜ SlotsFit g (now slots) × (i ≤ g .m) × (length (now bytes) ≡ g .w) × (reads ≤ mostReads) × Sane p ⌝ }
     ensures { λ r. ⌜ ((cs rs : List ℕ) → Ran (layoutOf g) p (record { reads = reads; store = slotStore i (now (bytes .entry)) } ∷ [])
         r (images cs rs (now (slots .entry))) (images cs rs (now (slots .exit)))) ⌝ }
 {

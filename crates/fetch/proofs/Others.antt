@@ -2,7 +2,6 @@
 use Prim.Native.Nat.{ℕ, _≤_, _<_}
 use native.Mathlib.Omega.{arith}
 use mathlib.Core.Path.{_≡_, refl, _∙_, fun-ext}
-use mathlib.Core.Logic.{_≢_}
 use mathlib.Core.Bool.{Bool, true, false, not, cond, _&&_}
 use mathlib.Core.List.{List}
 use lib.Dec.{eqb}
@@ -120,14 +119,7 @@ current-fits g e h = rw e at h
 pub old-fits : (g : Geometry) {role : Role} {m : ℕ} → role ≡ Old m → RoleFits g role → m < g .n
 old-fits g e h = rw e at h
 
--- it has a page
-pub current-there : (l : Layout) (r : Record) {role : Role} {m : ℕ} → role ≡ Current m → numberIn l r role ≢ none l → r .current m ≢ none l
-current-there l r e h = rw e at h
-
-pub old-there : (l : Layout) (r : Record) {role : Role} {m : ℕ} → role ≡ Old m → numberIn l r role ≢ none l → r .old m ≢ none l
-old-there l r e h = rw e at h
-
--- which is one of its chip
+-- its page, if it has one, is one of its chip
 pub role-number : (g : Geometry) → Within (layoutOf g) → (r : Record) → RecordSound (layoutOf g) r → (role : Role) → RoleFits g role
     → Numbered (layoutOf g) (numberIn (layoutOf g) r role)
 role-number g w r s (Current m) h = sound-member (layoutOf g) w r s m h .current

@@ -2,7 +2,7 @@
 use Prim.Native.Nat.{ℕ, _+_, _≤_, _<_}
 use native.Mathlib.Numerals.{add-one}
 use native.Mathlib.Omega.{arith}
-use mathlib.Core.Path.{_≡_, refl, _∙_}
+use mathlib.Core.Path.{_≡_, refl, sym, _∙_}
 use mathlib.Core.Logic.{_≢_}
 use mathlib.Core.Bool.{true, false, cond}
 use mathlib.Core.List.{List}
@@ -10,11 +10,10 @@ use lib.ListN.{length, getD, set, length-set}
 use lib.Seq.{getD-set-same, getD-set-other}
 use lib.Dec.{eqb}
 use borrow.Author.Tests.{eq-eqb, ne-eqb, le-ltb}
-use Rattle.ranges.specs.Look.{countBelow}
+use Rattle.ranges.specs.Look.{sumBelow}
 use Rattle.bytes.specs.Xor.{_⊕_, xorBelow}
 use Rattle.ranges.proofs.Looks.{by-test, at-last, by-order}
 use Rattle.ranges.proofs.Tests.{cond-same}
-use Rattle.ranges.proofs.Counts.{count-le}
 use Rattle.bytes.proofs.Xors.{xors-assoc, xor-nil-r, length-xors-left}
 use Rattle.layout.specs.declared.Geometry.{Geometry}
 use Rattle.layout.specs.Layout.{Layout, layoutOf, none}
@@ -22,10 +21,9 @@ use Rattle.layout.specs.Rotation.{memberChip}
 use Rattle.layout.proofs.Bits.{testBit}
 use Rattle.layout.specs.Page.{Page, pageAt}
 use Rattle.layout.specs.Record.{Record}
-use Rattle.rules.specs.Gather.{bytesAt, readsAt, memberBytes, isPage, gathered, gatheredReads}
 use Rattle.rules.specs.declared.Role.{Role}
 use Rattle.rules.specs.declared.Origin.the-variants.{Unwritten, Direct}
-use Rattle.rules.specs.Fetch.{Fetched, chipIn, numberIn, rebuilt, fetchRole}
+use Rattle.rules.specs.Fetch.{Fetched, itself, membersFeed, gathered, chipIn, numberIn, rebuilt, fetchRole}
 use Rattle.codec.specs.Views.{sixOf}
 use Rattle.fetch.specs.declared.Got.{Got}
 use Rattle.fetch.specs.Into.{Into}
@@ -81,68 +79,66 @@ module _ {bitmap : ℕ} {inside outside : List ℕ} {i : ℕ} {xs : List ℕ} (s
 pub as-long : {w : ℕ} (xs zs : List ℕ) {ys : List ℕ} → ys ≡ xs ⊕ zs → length xs ≡ w → length zs ≡ w → length ys ≡ w
 as-long xs zs e h k = rw e (length-xors-left xs zs (omega arith) ∙ h)
 
--- the data of the page of each member
-abbrev bytesOf : Geometry → List ℕ → ℕ → List ℕ → ℕ → List ℕ
-bytesOf g chips j numbers = memberBytes (layoutOf g) (pageAt (layoutOf g) chips) j (sixOf (layoutOf g) numbers)
+-- a page XORed in as it stands: there is none, or there is one
+module _ (l : Layout) (y : ℕ → ℕ → Page) (c p : ℕ) (before : List ℕ) where
+  pub page-none : p ≡ none l → (before ≡ before ⊕ itself l y c p .bytes) × (0 ≡ itself l y c p .reads) × (0 ≤ 1)
+  unfolding itself
+  page-none e = rw (eq-eqb p (none l) e) (sym (xor-nil-r before), refl, omega arith)
+
+  pub page-there : p ≢ none l → {after : List ℕ} → after ≡ before ⊕ y c p .bytes → (after ≡ before ⊕ itself l y c p .bytes) × (1 ≡ itself l y c p .reads) × (1 ≤ 1)
+  unfolding itself
+  page-there d e = rw (ne-eqb p (none l) d) (e, refl, omega arith)
+
+direct : (l : Layout) (y : ℕ → ℕ → Page) (c p : ℕ) → p ≢ none l → Direct ≡ itself l y c p .origin
+unfolding itself
+direct l y c p d = rw (ne-eqb p (none l) d)
+
+-- the page of each member, as it stands
+abbrev pageOf : Geometry → List ℕ → ℕ → List ℕ → ℕ → Fetched
+pageOf g chips j numbers m = itself (layoutOf g) (pageAt (layoutOf g) chips) (memberChip (layoutOf g) j m) (sixOf (layoutOf g) numbers m)
 
 -- the pages of the first m members are in
 pub record Gathered (g : Geometry) (chips : List ℕ) (j : ℕ) (numbers work₀ : List ℕ) (m : ℕ) (work : List ℕ) (reads : ℕ) : Type 0 where
   pub few : g .n ≤ 6
   pub within : m ≤ g .n
   pub long : length work ≡ g .w
-  pub bytes : work ≡ work₀ ⊕ xorBelow m (bytesOf g chips j numbers)
-  pub counted : reads ≡ countBelow m (isPage (layoutOf g) (sixOf (layoutOf g) numbers))
+  pub bytes : work ≡ work₀ ⊕ xorBelow m (λ i. pageOf g chips j numbers i .bytes)
+  pub counted : reads ≡ sumBelow m (λ i. pageOf g chips j numbers i .reads)
+  pub low : reads ≤ m
 
 -- before the first member
 pub gathered-none : (g : Geometry) (chips : List ℕ) (j : ℕ) (numbers work : List ℕ) → g .n ≤ 6 → length work ≡ g .w
     → Gathered g chips j numbers work 0 work 0
-unfolding xorBelow countBelow
-gathered-none g chips j numbers work n w = record { few = n; within = omega arith; long = w; bytes = rw (xor-nil-r work); counted = refl }
+unfolding xorBelow sumBelow
+gathered-none g chips j numbers work n w = record { few = n; within = omega arith; long = w; bytes = rw (xor-nil-r work); counted = refl; low = omega arith }
 
 module _ {g : Geometry} {chips : List ℕ} {j : ℕ} {numbers work₀ : List ℕ} {m : ℕ} {work : List ℕ} {reads : ℕ} (s : Gathered g chips j numbers work₀ m work reads) where
-  -- at most one read for a member
-  pub gathered-few : reads ≤ m
-  gathered-few = rw (s .counted) (count-le m (isPage (layoutOf g) (sixOf (layoutOf g) numbers)))
-
-  module _ (h : m < g .n) where
-    -- the next member has a page
-    pub gathered-more : getD numbers m 0 ≢ 65535 → (page : List ℕ) → length page ≡ g .w
-        → page ≡ pageAt (layoutOf g) chips (memberChip (layoutOf g) j m) (getD numbers m 0) .bytes
-        → Gathered g chips j numbers work₀ (m + 1) (work ⊕ page) (reads + 1)
-    unfolding xorBelow countBelow bytesAt none
-    gathered-more d page w e =
-        let at = six-in (layoutOf g) numbers m (omega arith) in
-        record {
-          few = s .few;
-          within = omega arith;
-          long = rw (length-xors-left work page (omega arith)) (s .long);
-          bytes = rw (add-one, at, ne-eqb (getD numbers m 0) 65535 d, ← e, s .bytes) (xors-assoc work₀ (xorBelow m (bytesOf g chips j numbers)) page);
-          counted = rw (add-one, add-one, at, ne-eqb (getD numbers m 0) 65535 d, s .counted);
-        }
-
-    -- the next member has none
-    pub gathered-skip : getD numbers m 0 ≡ 65535 → Gathered g chips j numbers work₀ (m + 1) work reads
-    unfolding xorBelow countBelow bytesAt none
-    gathered-skip d =
-        let at = six-in (layoutOf g) numbers m (omega arith) in
-        record {
-          few = s .few;
-          within = omega arith;
-          long = s .long;
-          bytes = rw (add-one, at, eq-eqb (getD numbers m 0) 65535 d, xor-nil-r (xorBelow m (bytesOf g chips j numbers))) (s .bytes);
-          counted = rw (add-one, at, eq-eqb (getD numbers m 0) 65535 d) (s .counted);
-        }
+  -- the page of the next member
+  pub gathered-more : m < g .n → {c p r : ℕ} {after : List ℕ} → c ≡ memberChip (layoutOf g) j m → p ≡ getD numbers m 0 → length after ≡ length work
+      → (after ≡ work ⊕ itself (layoutOf g) (pageAt (layoutOf g) chips) c p .bytes) × (r ≡ itself (layoutOf g) (pageAt (layoutOf g) chips) c p .reads) × (r ≤ 1)
+      → Gathered g chips j numbers work₀ (m + 1) after (reads + r)
+  unfolding xorBelow sumBelow
+  gathered-more h {c} {p} {r} {after} chip number long (bytes, counted, few) =
+      let at = number ∙ sym (six-in (layoutOf g) numbers m (omega (arith, s .few))) in
+      let page = pageOf g chips j numbers m in
+      record {
+        few = s .few;
+        within = omega arith;
+        long = long ∙ s .long;
+        bytes = rw (add-one, bytes, chip, at, s .bytes) (xors-assoc work₀ (xorBelow m (λ i. pageOf g chips j numbers i .bytes)) (page .bytes));
+        counted = rw (add-one, counted, chip, at, s .counted);
+        low = omega (arith, s .low);
+      }
 
   -- all members
   pub gathered-all : g .n ≤ m
-      → (work ≡ work₀ ⊕ gathered (layoutOf g) (pageAt (layoutOf g) chips) j (sixOf (layoutOf g) numbers))
-      × (reads ≡ gatheredReads (layoutOf g) (sixOf (layoutOf g) numbers))
+      → (work ≡ work₀ ⊕ gathered (layoutOf g) (pageAt (layoutOf g) chips) j (sixOf (layoutOf g) numbers) .bytes)
+      × (reads ≡ gathered (layoutOf g) (pageAt (layoutOf g) chips) j (sixOf (layoutOf g) numbers) .reads)
       × (reads ≤ 6)
-  unfolding gathered gatheredReads
+  unfolding gathered membersFeed
   gathered-all h =
       let all : m ≡ g .n = omega arith in
-      let few = gathered-few in
-      (rw all at (s .bytes), rw all at (s .counted), omega arith)
+      (rw all at (s .bytes), rw all at (s .counted), omega (arith, s .low, s .few))
 
 -- ---- what a fetch leaves
 
@@ -160,7 +156,7 @@ into-two a b {before} e after reads origin few =
 module _ (l : Layout) (y : ℕ → ℕ → Page) (z : ℕ → List ℕ) (j : ℕ) (r : Record) (lost : ℕ) (role : Role) where
   -- there is no page
   pub fetched-none : {before : List ℕ} → numberIn l r role ≡ none l → Into (fetchRole l y z j r lost role) before before (record { reads = 0; origin = Unwritten })
-  unfolding fetchRole bytesAt readsAt
+  unfolding fetchRole itself
   fetched-none {before} e =
       by-test (eqb (chipIn l j role) lost)
       (λ t. rw (t, e, eq-eqb (none l) (none l) refl) (record { bytes = rw (xor-nil-r before); reads = refl; origin = refl; few = omega arith }))
@@ -173,8 +169,10 @@ module _ (l : Layout) (y : ℕ → ℕ → Page) (z : ℕ → List ℕ) (j : ℕ
     fetched-lost e h = rw (eq-eqb (chipIn l j role) lost e, ne-eqb (numberIn l r role) (none l) there) h
 
     -- or not
-    pub fetched-direct : chipIn l j role ≢ lost → after ≡ before ⊕ y (chipIn l j role) (numberIn l r role) .bytes
-        → Into (fetchRole l y z j r lost role) before after (record { reads = 1; origin = Direct })
-    unfolding fetchRole bytesAt readsAt
-    fetched-direct d e =
-        rw (ne-eqb (chipIn l j role) lost d, ne-eqb (numberIn l r role) (none l) there) (record { bytes = e; reads = refl; origin = refl; few = omega arith })
+    pub fetched-direct : chipIn l j role ≢ lost → {c p n : ℕ} → c ≡ chipIn l j role → p ≡ numberIn l r role
+        → (after ≡ before ⊕ itself l y c p .bytes) × (n ≡ itself l y c p .reads) × (n ≤ 1)
+        → Into (fetchRole l y z j r lost role) before after (record { reads = n; origin = Direct })
+    unfolding fetchRole
+    fetched-direct d {c} {p} chip number (bytes, reads, few) =
+        rw (ne-eqb (chipIn l j role) lost d, ← chip, ← number)
+        (record { bytes = bytes; reads = reads; origin = direct l y c p (λ e. there (sym number ∙ e)); few = omega arith })

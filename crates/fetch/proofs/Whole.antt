@@ -1,15 +1,14 @@
 -- A page that is fetched is as long as a page, so XORed into zeros it stands there.
-use Prim.Native.Nat.{ℕ, _+_, _≤_, _<_}
+use Prim.Native.Nat.{ℕ, _+_, _<_}
 use native.Mathlib.Decide.{ℕ-discrete}
 use native.Mathlib.Omega.{arith}
-use mathlib.Core.Path.{_≡_, refl, sym, ap, _∙_}
+use mathlib.Core.Path.{_≡_, refl, _∙_}
 use mathlib.Core.Logic.{_≢_}
-use mathlib.Core.Bool.{true, false}
+use mathlib.Core.Bool.{true}
 use mathlib.Core.List.{List, []}
 use lib.ListN.{length, replicate}
 use lib.Dec.{eqb}
 use borrow.Author.Tests.{eq-eqb, ne-eqb}
-use Rattle.bytes.specs.Xor.{_⊕_}
 use Rattle.bytes.proofs.Xors.{xor-nil-r, length-xors-left, xors-zeros-l}
 use Rattle.ranges.proofs.Looks.{by-test}
 use Rattle.layout.specs.Layout.{Layout, none}
@@ -21,8 +20,7 @@ use Rattle.layout.proofs.Limits.{Within}
 use Rattle.layout.proofs.Rotations.{parity-chip-fits, member-chip-fits}
 use Rattle.rules.specs.declared.Role.the-variants.{Current}
 use Rattle.rules.specs.declared.Origin.the-variants.{Unwritten}
-use Rattle.rules.specs.Gather.{bytesAt, readsAt, gathered}
-use Rattle.rules.specs.Fetch.{Fetched, othersInside, othersUnderParity, throughPartial, throughParity, fetchRole, fetchIn}
+use Rattle.rules.specs.Fetch.{itself, gathered, othersInside, othersUnderParity, throughPartial, throughParity, fetchRole, fetchIn}
 use Rattle.rules.specs.Read.{fetchMember}
 use Rattle.rules.proofs.Soundness.Statements.{RecordSound, sound-member}
 use Rattle.rules.proofs.Data.Contents.{Whole, length-bytes, length-gathered, pages-whole, slot-whole, slot-bits, bit-slot}
@@ -32,21 +30,21 @@ use Rattle.fetch.specs.Into.{Into}
 
 module _ (l : Layout) (w : Within l) (y : ℕ → ℕ → Page) (whole : Whole l y) (z : ℕ → List ℕ) (slots : (i : ℕ) → i < l .M + 1 → length (z i) ≡ l .W)
     (j : ℕ) (r : Record) (s : RecordSound l r) (m : ℕ) (member : m < l .N) where
-  open Layout l using (N, W)
+  open Layout l using (W)
 
   partial-whole : bit r m ≡ true → length (throughPartial l y z j r m .bytes) ≡ W
   unfolding throughPartial
   partial-whole t =
       let slot = slots (r .slot) (omega (arith, s .slot (slot-bits l r s (bit-slot l w r s m t)))) in
       let others = length-gathered l y j whole (othersInside l m r) (numbered-others-inside l w r s m) in
-      length-xors-left (z (r .slot)) (gathered l y j (othersInside l m r)) (omega arith) ∙ slot
+      length-xors-left (z (r .slot)) (gathered l y j (othersInside l m r) .bytes) (omega arith) ∙ slot
 
   parity-whole : r .parity ≢ none l → length (throughParity l y z j r m .bytes) ≡ W
   unfolding throughParity
   parity-whole d =
       let parity = length-bytes l y whole (parityChip l j) (r .parity) (parity-chip-fits l j) (s .parity) d in
       let others = length-gathered l y j whole (othersUnderParity l m r) (numbered-others-under-parity l w r s m) in
-      length-xors-left (bytesAt l y (parityChip l j) (r .parity)) (gathered l y j (othersUnderParity l m r)) (omega arith) ∙ parity
+      length-xors-left (itself l y (parityChip l j) (r .parity) .bytes) (gathered l y j (othersUnderParity l m r) .bytes) (omega arith) ∙ parity
 
   current-whole : (lost : ℕ) → r .current m ≢ none l → length (fetchRole l y z j r lost (Current m) .bytes) ≡ W
   unfolding fetchRole
@@ -66,7 +64,7 @@ module _ (l : Layout) (w : Within l) (t : Images) (chips : length (t .chips) ≡
 
   -- of no page nothing is fetched
   none-fetched : r .current m ≡ none l → fetchRole l (pageAt l (t .chips)) (slotAt l (t .slots)) j r lost (Current m) ≡ record { bytes = []; reads = 0; origin = Unwritten }
-  unfolding fetchRole bytesAt readsAt
+  unfolding fetchRole itself
   none-fetched e =
       by-test (eqb (memberChip l j m) lost)
       (λ q. rw (q, e, eq-eqb (none l) (none l) refl))

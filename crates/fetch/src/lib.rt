@@ -7,6 +7,7 @@ use codec::NONE;
 use codec::StripeRecord;
 use codec::bit_of;
 use codec::member_chip;
+use codec::member_on;
 use codec::page_data;
 use codec::parity_chip;
 use codec::record_at;
@@ -22,15 +23,14 @@ ghost use Prim.Native.Nat.{ℕ, _/_, _%_, _^_, _≤_, _<_};
 ghost use lib.Dec.{eqb};
 ghost use lib.ListN.{length};
 ghost use Rattle.bytes.specs.Xor.{_⊕_};
-ghost use Rattle.layout.specs.Layout.{layoutOf, limits, none};
+ghost use Rattle.layout.specs.Layout.{layoutOf, limits, none, pages};
 ghost use Rattle.layout.specs.Page.{pageAt};
 ghost use Rattle.layout.specs.Record.{bit, recordAt};
 ghost use Rattle.layout.specs.Images.{slotAt};
 ghost use Rattle.steps.specs.Allowance.{images};
 ghost use Rattle.rules.specs.Names.{roleOf};
-ghost use Rattle.rules.specs.Gather.{gathered, gatheredReads};
 ghost use Rattle.rules.specs.Sound.{recordSound};
-ghost use Rattle.rules.specs.Fetch.{chipIn, numberIn, underParity, othersUnderParity, othersInside, throughPartial, throughParity, rebuilt, fetchRole};
+ghost use Rattle.rules.specs.Fetch.{itself, gathered, chipIn, numberIn, underParity, othersUnderParity, othersInside, throughPartial, throughParity, rebuilt, fetchRole};
 ghost use Rattle.rules.specs.Read.{fetchMember};
 ghost use Rattle.codec.specs.Fit.{ChipsFit, RecordsFit, SlotsFit};
 ghost use Rattle.codec.specs.Views.{sixOf, recordFrom};
@@ -44,21 +44,31 @@ pub struct Got {
     pub origin: Origin,
 }
 
-// XORs into work the page of each member of stripe j that has a number, and answers how many were read.
+// XORs into work page p of chip c as it stands, and answers how many pages were read: of no page, none.
+fn xor_page(work: &mut [u8], chips: &[u8], g: Geometry, c: usize, p: usize) -> u64
+    requires { ⌜ ChipsFit g (now chips) × (length (now work) ≡ g .w) × (c ≤ g .n) × (p ≢ none (layoutOf g) → p < pages (layoutOf g)) ⌝ }
+    ensures { λ r. ⌜ (now (work .exit) ≡ now (work .entry) ⊕ itself (layoutOf g) (pageAt (layoutOf g) (now (chips .entry))) c p .bytes)
+        × (r ≡ itself (layoutOf g) (pageAt (layoutOf g) (now (chips .entry))) c p .reads) × (r ≤ 1) ⌝ }
+{
+    if p != NONE {
+        xor_into(work, page_data(chips, g, c, p));
+        return 1;
+    }
+    0
+}
+
+// XORs into work the page of each member of stripe j, and answers how many were read.
 fn gather(work: &mut [u8], chips: &[u8], g: Geometry, j: usize, numbers: [usize; 6]) -> u64
     requires { ⌜ ChipsFit g (now chips) × (length (now work) ≡ g .w) × NumbersFit g numbers ⌝ }
-    ensures { λ r. ⌜ (now (work .exit) ≡ now (work .entry) ⊕ gathered (layoutOf g) (pageAt (layoutOf g) (now (chips .entry))) j (sixOf (layoutOf g) numbers))
-        × (r ≡ gatheredReads (layoutOf g) (sixOf (layoutOf g) numbers)) × (r ≤ 6) ⌝ }
+    ensures { λ r. ⌜ (now (work .exit) ≡ now (work .entry) ⊕ gathered (layoutOf g) (pageAt (layoutOf g) (now (chips .entry))) j (sixOf (layoutOf g) numbers) .bytes)
+        × (r ≡ gathered (layoutOf g) (pageAt (layoutOf g) (now (chips .entry))) j (sixOf (layoutOf g) numbers) .reads) × (r ≤ 6) ⌝ }
 {
     let n = g.n as usize;
     let mut reads = 0;
     let mut m = 0;
     while m < n {
-        let p = numbers[m];
-        if p != NONE {
-            xor_into(work, page_data(chips, g, member_chip(g, j, m), p));
-            reads += 1;
-        }
+        let read = xor_page(work, chips, g, member_chip(g, j, m), numbers[m]);
+        reads += read;
         m += 1;
     }
     reads
@@ -140,14 +150,13 @@ fn through_parity(
     e: StripeRecord,
     m: usize,
 ) -> Got
-    requires { ⌜ ChipsFit g (now chips) × (length (now work) ≡ g .w) × (m < g .n)
-        × (recordSound (layoutOf g) (recordFrom (layoutOf g) e) ≡ true) × (e .parity ≢ none (layoutOf g)) ⌝ }
+    requires { ⌜ ChipsFit g (now chips) × (length (now work) ≡ g .w) × (m < g .n) × (recordSound (layoutOf g) (recordFrom (layoutOf g) e) ≡ true) ⌝ }
     ensures { λ r. ⌜ ((z : ℕ → List ℕ) → Into (throughParity (layoutOf g) (pageAt (layoutOf g) (now (chips .entry))) z j (recordFrom (layoutOf g) e) m)
         (now (work .entry)) (now (work .exit)) r) ⌝ }
 {
-    xor_into(work, page_data(chips, g, parity_chip(g, j), e.parity));
+    let first = xor_page(work, chips, g, parity_chip(g, j), e.parity);
     Got {
-        reads: 1 + gather(work, chips, g, j, others_under_parity(e, m)),
+        reads: first + gather(work, chips, g, j, others_under_parity(e, m)),
         origin: Origin::Full,
     }
 }
@@ -163,7 +172,7 @@ fn rebuild(
     role: Role,
 ) -> Got
     requires { ⌜ ChipsFit g (now chips) × SlotsFit g (now slots) × (length (now work) ≡ g .w) × RoleFits g role
-        × (recordSound (layoutOf g) (recordFrom (layoutOf g) e) ≡ true) × (numberIn (layoutOf g) (recordFrom (layoutOf g) e) role ≢ none (layoutOf g)) ⌝ }
+        × (recordSound (layoutOf g) (recordFrom (layoutOf g) e) ≡ true) ⌝ }
     ensures { λ r. ⌜ Into (rebuilt (layoutOf g) (pageAt (layoutOf g) (now (chips .entry))) (slotAt (layoutOf g) (now (slots .entry))) j (recordFrom (layoutOf g) e) role)
         (now (work .entry)) (now (work .exit)) r ⌝ }
 {
@@ -211,11 +220,10 @@ pub fn role_of(g: Geometry, e: StripeRecord, j: usize, c: usize, p: usize) -> Ro
     requires { ⌜ (limits (layoutOf g) ≡ true) × (c ≤ g .n) ⌝ }
     ensures { λ r. ⌜ (r ≡ roleOf (layoutOf g) c j (recordFrom (layoutOf g) e) p) × RoleFits g r ⌝ }
 {
-    let parity = parity_chip(g, j);
-    if c == parity {
+    if c == parity_chip(g, j) {
         return Role::Parity;
     }
-    let m = if c < parity { c } else { c - 1 };
+    let m = member_on(g, j, c);
     if e.current[m] == p {
         return Role::Current(m);
     }
@@ -249,9 +257,8 @@ pub fn fetch(
     if c == lost {
         return rebuild(work, chips, slots, g, j, e, role);
     }
-    xor_into(work, page_data(chips, g, c, p));
     Got {
-        reads: 1,
+        reads: xor_page(work, chips, g, c, p),
         origin: Origin::Direct,
     }
 }

@@ -1,15 +1,14 @@
 -- The stores of a format: what the first of them make of the images.
 use Prim.Native.Nat.{ℕ, zero, suc, _+_, _*_, _/_, _%_, _<_}
 use native.Mathlib.Nat.{div-add-mod', mul-assoc, add-mul}
-use mathlib.Core.Path.{_≡_, refl, sym, ap, _∙_}
+use mathlib.Core.Path.{_≡_, refl}
 use mathlib.Core.List.{List}
 use lib.ListN.{replicate}
-use Rattle.bytes.specs.Units.{put, unitPut}
-use Rattle.layout.specs.declared.Geometry.{Geometry}
-use Rattle.layout.specs.Layout.{Layout, layoutOf, pages, pageBytes, recordBytes}
+use Rattle.bytes.specs.Units.{unitPut}
+use Rattle.layout.specs.Layout.{Layout, pages, pageBytes, recordBytes}
 use Rattle.layout.specs.Record.{bytesOfRecord, emptyRecord}
-use Rattle.steps.specs.Store.{Store, erase, stripe, erased, recorded, apply}
-use Rattle.steps.specs.Steps.{Step, applyAll, stepsBelow}
+use Rattle.steps.specs.Store.{Store, erase, erased, recorded, apply}
+use Rattle.steps.specs.Steps.{applyAll, stepsBelow}
 use Rattle.steps.specs.Allowance.{images}
 use Rattle.steps.proofs.Runs.{apply-append}
 use Rattle.steps.proofs.Alike.{one, below-below}

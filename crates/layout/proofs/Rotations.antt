@@ -6,7 +6,7 @@ use native.Mathlib.Nat.{div-lt-iff-lt-mul, mul-comm, mod-lt}
 use mathlib.Core.Path.{_≡_, sym, ap, _∙_}
 use mathlib.Core.Logic.{_≢_}
 use borrow.Author.Tests.{lt-ltb, le-ltb}
-use Rattle.layout.specs.Layout.{Layout, noChip}
+use Rattle.layout.specs.Layout.{Layout}
 use Rattle.layout.specs.Rotation.{parityChip, memberChip, memberOn, memberOf, stripeOf}
 use Rattle.layout.proofs.Limits.{Within}
 
@@ -73,10 +73,6 @@ module _ (l : Layout) (j : ℕ) where
 
 module _ (l : Layout) (w : Within l) where
   open Layout l using (N, S)
-
-  -- no member is on the chip that stands for none
-  pub chip-there : (j m : ℕ) → m < N → memberChip l j m ≢ noChip
-  chip-there j m h = omega (arith, w .members-high, member-chip-fits l j m h)
 
   -- the stripe, the member and the chip of a logical page
   members : 0 < N

@@ -22,7 +22,7 @@ abbrev pub chipOf : Layout → ℕ → ℕ
 chipOf l i = memberChip l (stripeOf l i) (memberOf l i)
 
 module _ (l : Layout) where
-  open Layout l using (N, W, K, B, S, M, D)
+  open Layout l using (N, K, B, S, M, D)
 
   -- "N = 4: parity of stripes 0, 1, 4, 5 on chips 4, 3, 0, 4."
   pub parity-chips : N ≡ 4 → Rows (parityChip l) ((0, 4) ∷ (1, 3) ∷ (4, 0) ∷ (5, 4) ∷ [])

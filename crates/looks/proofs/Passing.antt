@@ -6,7 +6,7 @@ use mathlib.Core.Path.{_≡_, refl, sym, ap, _∙_}
 use mathlib.Core.Bool.{Bool, true, false, not}
 use mathlib.Core.List.{List, [], _∷_, _++_}
 use lib.Dec.{ltb}
-use borrow.Author.Tests.{eqb-true, not-true, not-false, lt-ltb, le-ltb, ltb-true, ltb-false}
+use borrow.Author.Tests.{not-true, not-false, lt-ltb, le-ltb, ltb-true, ltb-false}
 use Rattle.ranges.proofs.Looks.{by-test}
 use Rattle.layout.specs.declared.Geometry.{Geometry}
 use Rattle.layout.specs.Layout.{Layout, layoutOf, noChip, limits}
@@ -21,7 +21,7 @@ use Rattle.rules.specs.declared.Check.{Check}
 use Rattle.rules.specs.declared.Check.the-variants.{Passed, Failed}
 use Rattle.rules.specs.Sound.{recordSound, isLost}
 use Rattle.rules.specs.Refusals.{Row, pageRow, unless, checked, lostNamed, recordsCheck, sparesCheck, atRest, buffersRows, imagesRows, settledRows}
-use Rattle.rules.proofs.Soundness.Table.{by-check, not-passed, rows-passed, below-passed, below-failed, both-passed}
+use Rattle.rules.proofs.Soundness.Table.{by-check, rows-passed, below-passed, below-failed, both-passed}
 use Rattle.rules.proofs.Soundness.Accepted.{buffers-accepted, images-accepted, settled-accepted}
 use Rattle.rules.proofs.Soundness.Checks.{lengths-are, records-check-pass, spares-check-pass}
 use Rattle.rules.proofs.Soundness.RecordChecks.{record-pass}

@@ -5,8 +5,9 @@ use codec::collection_at;
 use codec::limits::geometry_passes;
 use codec::limits::lengths_pass;
 use layout::Geometry;
+use layout::NO_CHIP;
 use ranges::Found;
-use ranges::Least;
+use ranges::no_least;
 use records::SlotScan;
 use records::scan_records;
 use rules::Check;
@@ -48,11 +49,7 @@ pub fn buffers_check(g: Geometry, chips: &[u8], records: &[u8], slots: &[u8]) ->
 fn refused(r: Refusal) -> Look
     ensures { λ o. ⌜ o ≡ nothing r ⌝ }
 {
-    let victim = Least {
-        found: false,
-        at: 0,
-        measure: 0,
-    };
+    let victim = no_least();
     let none = ChipScan {
         ordered: true,
         clean: false,
@@ -81,7 +78,7 @@ pub fn images_look(g: Geometry, chips: &[u8], records: &[u8], slots: &[u8], lost
         return refused(r);
     }
     let n = g.n as usize;
-    if !((lost == 255) | (lost <= n)) {
+    if !((lost == NO_CHIP) | (lost <= n)) {
         return refused(Refusal::LostChip);
     }
     let scan = scan_records(g, records, lost);

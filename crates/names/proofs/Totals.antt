@@ -1,11 +1,11 @@
 -- The numbers of all records, chip by chip: as many pages are found by their stamps on all chips but the lost one as the records
 -- have numbers there exactly where every named page of every such chip is rightly stamped.
-use Prim.Native.Nat.{ℕ, suc, _+_, _-_, _≤_, _<_}
+use Prim.Native.Nat.{ℕ, suc, _+_, _≤_, _<_}
 use native.Mathlib.Numerals.{add-one}
 use native.Mathlib.Omega.{arith}
 use mathlib.Core.Path.{_≡_, refl, sym, _∙_}
 use mathlib.Core.Bool.{Bool, cond, _||_}
-use lib.Dec.{leb, eqb}
+use lib.Dec.{eqb}
 use borrow.Author.Tests.{eq-eqb, le-leb, lt-leb}
 use Rattle.ranges.specs.Look.{allBelow, countBelow, sumBelow}
 use Rattle.ranges.proofs.Looks.{by-test, by-order, by-same, all-cong}

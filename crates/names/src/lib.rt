@@ -4,12 +4,14 @@ use codec::DATA;
 use codec::NONE;
 use codec::PARITY;
 use codec::Spare;
+use codec::member_on;
 use codec::parity_chip;
 use codec::scan::LAST;
 use codec::scan::OLD;
 use codec::scan::number_in;
 use codec::spare_at;
 use layout::Geometry;
+use ranges::ones;
 ghost use mathlib.Core.Path.{_≡_};
 ghost use Prim.Native.Nat.{ℕ, _≤_, _<_};
 ghost use Rattle.layout.specs.Layout.{layoutOf, pages};
@@ -42,7 +44,7 @@ fn stripe_pages(records: &[u8], g: Geometry, c: usize, j: usize) -> StripePages
             member: 0,
         };
     }
-    let m = if c < parity { c } else { c - 1 };
+    let m = member_on(g, j, c);
     StripePages {
         main: number_in(records, g, j, m),
         side: number_in(records, g, j, OLD + m),
@@ -62,13 +64,7 @@ fn named_by_stamp(records: &[u8], g: Geometry, c: usize, p: usize, t: Spare) -> 
         return false;
     }
     let e = stripe_pages(records, g, c, j);
-    if (t.kind != e.kind) | (t.member != e.member) {
-        return false;
-    }
-    if e.main == p {
-        return true;
-    }
-    e.side == p
+    (t.kind == e.kind) & (t.member == e.member) & ((e.main == p) | (e.side == p))
 }
 
 // Whether a record names page p of chip c.
@@ -85,7 +81,5 @@ pub fn names_on(records: &[u8], g: Geometry, c: usize, j: usize) -> usize
     ensures { λ r. ⌜ (r ≡ namesOn (layoutOf g) (recordAt (layoutOf g) (now (records .entry))) j c) × (r ≤ 2) ⌝ }
 {
     let e = stripe_pages(records, g, c, j);
-    let main: usize = if e.main == NONE { 0 } else { 1 };
-    let side: usize = if e.side == NONE { 0 } else { 1 };
-    main + side
+    ones(e.main != NONE) + ones(e.side != NONE)
 }

@@ -5,7 +5,7 @@ use mathlib.Core.Path.{_≡_, ap, fun-ext}
 use mathlib.Core.List.{List, [], _∷_, _++_}
 use lib.ListN.{getD, replicate}
 use Rattle.layout.specs.declared.Geometry.{Geometry}
-use Rattle.layout.specs.Layout.{Layout, layoutOf, noChip}
+use Rattle.layout.specs.Layout.{Layout, layoutOf}
 use Rattle.layout.specs.Rotation.{parityChip}
 use Rattle.layout.specs.Page.{pageAt}
 use Rattle.layout.specs.Record.{Record, recordAt}
@@ -13,7 +13,7 @@ use Rattle.layout.specs.Images.{slotAt}
 use Rattle.steps.specs.Store.{program, stripe}
 use Rattle.steps.specs.Steps.{plain}
 use Rattle.steps.specs.Allowance.{images}
-use Rattle.rules.specs.Fetch.{fetched, fetchRole, fetchIn, feedIn}
+use Rattle.rules.specs.Fetch.{feedRole, feedIn}
 use Rattle.rules.specs.Parity.{newParity, parityPage, committed, commitAt}
 use Rattle.codec.specs.declared.StripeRecord.{StripeRecord}
 use Rattle.codec.specs.Views.{sixOf, recordFrom}
@@ -40,8 +40,7 @@ module _ (g : Geometry) (j q : ℕ) (x y z : List ℕ) (e : StripeRecord) (is : 
 
   -- the new parity from the images
   parity-from : parityIn g x z j e ≡ newParity l (feedIn l (images x y z) j) (slotAt l z (recordAt l y j .slot)) (recordAt l y j)
-  unfolding fetchIn
-  parity-from = ap (λ (r : Record). newParity l (λ role. fetched (fetchRole l (pageAt l x) (slotAt l z) j r noChip role)) (slotAt l z (r .slot)) r) is
+  parity-from = ap (λ (r : Record). newParity l (feedRole l (pageAt l x) (slotAt l z) j r) (slotAt l z (r .slot)) r) is
 
   -- the list, where e is the record of stripe j and n the one that is stored
   pub commit-list : (n : Record) (c reads : ℕ) (xs : List ℕ) → n ≡ committed l q (recordFrom l e) → c ≡ parityChip l j

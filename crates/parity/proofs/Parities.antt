@@ -25,6 +25,7 @@ use Rattle.rules.specs.Fetch.{fetchRole, membersFeed}
 use Rattle.rules.specs.Parity.{newParity}
 use Rattle.rules.proofs.Data.Feeds.{parity-fed}
 use Rattle.rules.proofs.Data.Costs.{commit-reads}
+use Rattle.steps.specs.Allowance.{mostReads}
 use Rattle.codec.specs.declared.StripeRecord.{StripeRecord}
 use Rattle.codec.specs.Views.{recordFrom}
 use Rattle.fetch.specs.declared.Got.{Got}
@@ -111,17 +112,17 @@ module _ (g : Geometry) (w : Within (layoutOf g)) (chips slots : List ℕ) (j : 
   abbrev r : Record
   r = recordFrom l e
 
-  cost-few : costOf l (setBits l r) ≤ 8
+  cost-few : costOf l (setBits l r) ≤ mostReads
   unfolding costOf setBits
   cost-few =
       let few = count-le (g .n) (bit r) in
       by-test (mostInPartial l (setBits l r)) (λ t. rw t (omega (arith, w .members-high))) (λ t. rw t (omega (arith, w .members-high)))
 
-  parity-few : parityIn g chips slots j e .reads ≤ 8
+  parity-few : parityIn g chips slots j e .reads ≤ mostReads
   parity-few = rw (parity-fed l w (pageAt l chips) (slotAt l slots) j r) (omega (arith, commit-reads l r, cost-few))
 
   abbrev IsParity : List ℕ → ℕ → Type 0
-  IsParity xs reads = (xs ≡ parityIn g chips slots j e .bytes) × (reads ≡ parityIn g chips slots j e .reads) × (reads ≤ 8)
+  IsParity xs reads = (xs ≡ parityIn g chips slots j e .bytes) × (reads ≡ parityIn g chips slots j e .reads) × (reads ≤ mostReads)
 
   -- it is of these bytes and reads
   is-parity : {xs : List ℕ} {reads : ℕ} → xs ≡ parityIn g chips slots j e .bytes → reads ≡ parityIn g chips slots j e .reads → IsParity xs reads

@@ -3,13 +3,13 @@ use Prim.Native.Nat.{ℕ}
 use mathlib.Core.Bool.{Bool, not, cond}
 use mathlib.Core.List.{List}
 use Rattle.layout.specs.declared.Geometry.{Geometry}
-use Rattle.layout.specs.Layout.{Layout, layoutOf, noChip}
+use Rattle.layout.specs.Layout.{Layout, layoutOf}
 use Rattle.layout.specs.Page.{pageAt}
 use Rattle.layout.specs.Record.{Record, bit}
 use Rattle.layout.specs.Images.{slotAt}
 use Rattle.rules.specs.declared.Role.{Role}
 use Rattle.rules.specs.declared.Role.the-variants.{Current, Old}
-use Rattle.rules.specs.Fetch.{Feed, fetched, fetchRole, membersFeed}
+use Rattle.rules.specs.Fetch.{Feed, feedRole, membersFeed}
 use Rattle.rules.specs.Parity.{newParity}
 use Rattle.codec.specs.declared.StripeRecord.{StripeRecord}
 use Rattle.codec.specs.Views.{recordFrom}
@@ -27,7 +27,7 @@ module _ (g : Geometry) (chips slots : List ℕ) (j : ℕ) (e : StripeRecord) wh
 
   -- a page in its role
   abbrev pub pageIn : Role → Feed
-  pageIn role = fetched (fetchRole l (pageAt l chips) (slotAt l slots) j r noChip role)
+  pageIn role = feedRole l (pageAt l chips) (slotAt l slots) j r role
 
   -- member m is one of them
   abbrev pub memberIn : Bool → ℕ → Bool

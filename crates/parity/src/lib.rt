@@ -1,6 +1,7 @@
 //! What a commit stores: the new parity page at its place, and the record.
 
 use bytes::copy;
+use codec::NO_SLOT;
 use codec::NONE;
 use codec::PARITY;
 use codec::Spare;
@@ -27,7 +28,7 @@ ghost use Rattle.layout.specs.Layout.{layoutOf, pages};
 ghost use Rattle.layout.specs.Record.{recordAt, hasSlot};
 ghost use Rattle.rules.specs.Sound.{recordSound};
 ghost use Rattle.rules.specs.Parity.{committed as committedRecord, commitAt};
-ghost use Rattle.steps.specs.Allowance.{Sane, Ran, images};
+ghost use Rattle.steps.specs.Allowance.{mostReads, Sane, Ran, images};
 ghost use Rattle.codec.specs.Fit.{ChipsFit, RecordsFit, SlotsFit};
 ghost use Rattle.codec.specs.Views.{recordFrom, SmallRecord};
 ghost use Rattle.parity.specs.Members.{membersIn, parityIn};
@@ -76,7 +77,7 @@ fn new_parity(
     requires { ⌜ ChipsFit g (now chips) × SlotsFit g (now slots) × (length (now work) ≡ g .w)
         × (recordSound (layoutOf g) (recordFrom (layoutOf g) e) ≡ true) × (hasSlot (recordFrom (layoutOf g) e) ≡ true) ⌝ }
     ensures { λ r. ⌜ (now (work .exit) ≡ parityIn g (now (chips .entry)) (now (slots .entry)) j e .bytes)
-        × (r ≡ parityIn g (now (chips .entry)) (now (slots .entry)) j e .reads) × (r ≤ 8) ⌝ }
+        × (r ≡ parityIn g (now (chips .entry)) (now (slots .entry)) j e .reads) × (r ≤ mostReads) ⌝ }
 {
     copy(work, slot_data(slots, g, e.slot));
     if most_in_partial(g, set_bits(g, e.bitmap)) {
@@ -97,7 +98,7 @@ fn committed(e: StripeRecord, q: usize) -> StripeRecord
         old: [NONE; 6],
         parity: q,
         bitmap: 0,
-        slot: 255,
+        slot: NO_SLOT,
     }
 }
 
@@ -106,26 +107,25 @@ pub fn commit_at(
     chips: &mut [u8],
     records: &mut [u8],
     slots: &[u8],
+    work: &mut [u8],
     g: Geometry,
     j: usize,
     q: usize,
     p: Progress,
 ) -> Progress
-    requires { ⌜ ChipsFit g (now chips) × RecordsFit g (now records) × SlotsFit g (now slots) × (j < g .s) × (q < pages (layoutOf g)) × Sane p
+    requires { ⌜ ChipsFit g (now chips) × RecordsFit g (now records) × SlotsFit g (now slots) × (length (now work) ≡ g .w) × (j < g .s) × (q < pages (layoutOf g)) × Sane p
         × (recordSound (layoutOf g) (recordAt (layoutOf g) (now records) j) ≡ true) × (hasSlot (recordAt (layoutOf g) (now records) j) ≡ true) ⌝ }
     ensures { λ r. ⌜ Ran (layoutOf g) p (commitAt (layoutOf g) j q (images (now (chips .entry)) (now (records .entry)) (now (slots .entry))))
         r (images (now (chips .entry)) (now (records .entry)) (now (slots .entry))) (images (now (chips .exit)) (now (records .exit)) (now (slots .entry))) ⌝ }
 {
-    let mut work = [0u8; 4096];
-    let w = g.w as usize;
     let e = record_at(records, g, j);
-    let reads = new_parity(&mut work[0..w], chips, slots, g, j, e);
+    let reads = new_parity(work, chips, slots, g, j, e);
     let spare = Spare {
         kind: PARITY,
         member: 0,
         stripe: j,
         copied: NONE,
     };
-    let run = program(chips, g, parity_chip(g, j), q, &work[0..w], spare, reads, p);
+    let run = program(chips, g, parity_chip(g, j), q, work, spare, reads, p);
     store_record(records, g, j, committed(e, q), run)
 }

@@ -17,6 +17,7 @@ use Rattle.layout.proofs.Bits.{testBit}
 use Rattle.rules.specs.declared.Role.the-variants.{Current}
 use Rattle.rules.specs.Fetch.{fetchRole}
 use Rattle.rules.specs.Partial.{newPartial}
+use Rattle.steps.specs.Allowance.{mostReads}
 use Rattle.codec.specs.declared.StripeRecord.{StripeRecord}
 use Rattle.codec.specs.Views.{recordFrom}
 use Rattle.fetch.specs.declared.Got.{Got}
@@ -26,7 +27,7 @@ use Rattle.partial.specs.Feed.{partialIn}
 module _ (g : Geometry) (chips slots : List ℕ) (j m : ℕ) (xs : List ℕ) (e : StripeRecord) where
   -- it is zs, and so many pages were read
   abbrev pub IsPartial : List ℕ → ℕ → Type 0
-  IsPartial zs reads = (zs ≡ partialIn g chips slots j m xs e .bytes) × (reads ≡ partialIn g chips slots j m xs e .reads) × (reads ≤ 8)
+  IsPartial zs reads = (zs ≡ partialIn g chips slots j m xs e .bytes) × (reads ≡ partialIn g chips slots j m xs e .reads) × (reads ≤ mostReads)
 
   -- "the data"
   pub without-slot : e .slot ≡ 255 → {zs : List ℕ} → zs ≡ xs → IsPartial zs 0

@@ -2,10 +2,10 @@
 use Prim.Native.Nat.{ℕ}
 use mathlib.Core.List.{List}
 use Rattle.layout.specs.declared.Geometry.{Geometry}
-use Rattle.layout.specs.Layout.{layoutOf, noChip}
+use Rattle.layout.specs.Layout.{layoutOf}
 use Rattle.layout.specs.Page.{pageAt}
 use Rattle.layout.specs.Images.{slotAt}
-use Rattle.rules.specs.Fetch.{Feed, fetched, fetchRole}
+use Rattle.rules.specs.Fetch.{Feed, feedRole}
 use Rattle.rules.specs.Partial.{newPartial}
 use Rattle.codec.specs.declared.StripeRecord.{StripeRecord}
 use Rattle.codec.specs.Views.{recordFrom}
@@ -15,4 +15,4 @@ abbrev pub partialIn : Geometry → List ℕ → List ℕ → ℕ → ℕ → Li
 partialIn g chips slots j m xs e =
     let l = layoutOf g in
     let r = recordFrom l e in
-    newPartial l (λ role. fetched (fetchRole l (pageAt l chips) (slotAt l slots) j r noChip role)) (slotAt l slots (r .slot)) m xs r
+    newPartial l (feedRole l (pageAt l chips) (slotAt l slots) j r) (slotAt l slots (r .slot)) m xs r

@@ -3,6 +3,7 @@
 use bytes::copy;
 use bytes::xor_into;
 use codec::DATA;
+use codec::NO_SLOT;
 use codec::NONE;
 use codec::Spare;
 use codec::StripeRecord;
@@ -27,7 +28,7 @@ ghost use Rattle.layout.specs.Layout.{layoutOf, pages};
 ghost use Rattle.layout.specs.Record.{recordAt};
 ghost use Rattle.rules.specs.Sound.{recordSound};
 ghost use Rattle.rules.specs.Partial.{lowestFreeSlot, written as writtenRecord, slotSteps, writeAt};
-ghost use Rattle.steps.specs.Allowance.{Sane, Ran, images};
+ghost use Rattle.steps.specs.Allowance.{mostReads, Sane, Ran, images};
 ghost use Rattle.codec.specs.Fit.{ChipsFit, RecordsFit, SlotsFit};
 ghost use Rattle.codec.specs.Views.{recordFrom, SmallRecord};
 ghost use Rattle.partial.specs.Feed.{partialIn};
@@ -46,9 +47,9 @@ fn new_partial(
     requires { ⌜ ChipsFit g (now chips) × SlotsFit g (now slots) × (length (now work) ≡ g .w) × (length (now bytes) ≡ g .w) × (m < g .n)
         × (recordSound (layoutOf g) (recordFrom (layoutOf g) e) ≡ true) ⌝ }
     ensures { λ r. ⌜ (now (work .exit) ≡ partialIn g (now (chips .entry)) (now (slots .entry)) j m (now (bytes .entry)) e .bytes)
-        × (r ≡ partialIn g (now (chips .entry)) (now (slots .entry)) j m (now (bytes .entry)) e .reads) × (r ≤ 8) ⌝ }
+        × (r ≡ partialIn g (now (chips .entry)) (now (slots .entry)) j m (now (bytes .entry)) e .reads) × (r ≤ mostReads) ⌝ }
 {
-    if e.slot == 255 {
+    if e.slot == NO_SLOT {
         copy(work, bytes);
         return 0;
     }
@@ -82,6 +83,7 @@ fn store_partial(
     chips: &[u8],
     records: &mut [u8],
     slots: &mut [u8],
+    work: &mut [u8],
     g: Geometry,
     j: usize,
     m: usize,
@@ -90,7 +92,7 @@ fn store_partial(
     free: Found,
     p: Progress,
 ) -> Progress
-    requires { ⌜ ChipsFit g (now chips) × RecordsFit g (now records) × SlotsFit g (now slots) × (j < g .s) × (m < g .n) × (length (now bytes) ≡ g .w)
+    requires { ⌜ ChipsFit g (now chips) × RecordsFit g (now records) × SlotsFit g (now slots) × (length (now work) ≡ g .w) × (j < g .s) × (m < g .n) × (length (now bytes) ≡ g .w)
         × (q < pages (layoutOf g)) × (recordSound (layoutOf g) (recordAt (layoutOf g) (now records) j) ≡ true) × Sane p
         × (free ≡ lowestFreeSlot (layoutOf g) (recordAt (layoutOf g) (now records))) ⌝ }
     ensures { λ r. ⌜ Ran (layoutOf g) p (slotSteps (layoutOf g) j m (now (bytes .entry)) q (images (now (chips .entry)) (now (records .entry)) (now (slots .entry))))
@@ -98,11 +100,9 @@ fn store_partial(
 {
     match free {
         Found::At(i) => {
-            let mut work = [0u8; 4096];
-            let w = g.w as usize;
             let e = record_at(records, g, j);
-            let reads = new_partial(&mut work[0..w], chips, slots, g, j, m, bytes, e);
-            let run = store_slot(slots, g, i, &work[0..w], reads, p);
+            let reads = new_partial(work, chips, slots, g, j, m, bytes, e);
+            let run = store_slot(slots, g, i, work, reads, p);
             store_record(records, g, j, written(e, m, q, i), run)
         }
         Found::Nothing => p,
@@ -114,6 +114,7 @@ pub fn write_at(
     chips: &mut [u8],
     records: &mut [u8],
     slots: &mut [u8],
+    work: &mut [u8],
     g: Geometry,
     j: usize,
     m: usize,
@@ -122,7 +123,7 @@ pub fn write_at(
     free: Found,
     p: Progress,
 ) -> Progress
-    requires { ⌜ ChipsFit g (now chips) × RecordsFit g (now records) × SlotsFit g (now slots) × (j < g .s) × (m < g .n) × (length (now bytes) ≡ g .w)
+    requires { ⌜ ChipsFit g (now chips) × RecordsFit g (now records) × SlotsFit g (now slots) × (length (now work) ≡ g .w) × (j < g .s) × (m < g .n) × (length (now bytes) ≡ g .w)
         × (q < pages (layoutOf g)) × (recordSound (layoutOf g) (recordAt (layoutOf g) (now records) j) ≡ true) × Sane p
         × (free ≡ lowestFreeSlot (layoutOf g) (recordAt (layoutOf g) (now records))) ⌝ }
     ensures { λ r. ⌜ Ran (layoutOf g) p (writeAt (layoutOf g) j m (now (bytes .entry)) q (images (now (chips .entry)) (now (records .entry)) (now (slots .entry))))
@@ -135,5 +136,5 @@ pub fn write_at(
         copied: NONE,
     };
     let run = program(chips, g, member_chip(g, j, m), q, bytes, spare, 0, p);
-    store_partial(chips, records, slots, g, j, m, bytes, q, free, run)
+    store_partial(chips, records, slots, work, g, j, m, bytes, q, free, run)
 }

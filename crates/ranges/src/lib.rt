@@ -1,8 +1,8 @@
 //! What a search through a range of numbers answers, and the least by a measure.
 
 ghost use mathlib.Core.Path.{_≡_};
-ghost use mathlib.Core.Bool.{Bool, true};
-ghost use Prim.Native.Nat.{ℕ, _+_};
+ghost use mathlib.Core.Bool.{Bool, true, cond};
+ghost use Prim.Native.Nat.{ℕ, _+_, _≤_};
 ghost use Rattle.ranges.specs.Look.{foundIn, leastSoFar};
 
 // What a search answers.
@@ -55,4 +55,11 @@ pub fn found_in(least: Least) -> Found
     } else {
         Found::Nothing
     }
+}
+
+// What a test adds to a count.
+pub fn ones(test: bool) -> usize
+    ensures { λ r. ⌜ (r ≡ cond test 1 0) × (r ≤ 1) ⌝ }
+{
+    if test { 1 } else { 0 }
 }

@@ -1,5 +1,5 @@
 -- The pass over the records: what is known once those below j are passed.
-use Prim.Native.Nat.{ℕ, _+_, _-_, _*_, _≤_, _<_}
+use Prim.Native.Nat.{ℕ, _+_, _-_, _*_, _≤_}
 use native.Mathlib.Numerals.{add-one}
 use native.Mathlib.Omega.{arith}
 use mathlib.Core.Path.{_≡_, refl, sym, ap}
@@ -21,7 +21,7 @@ use Rattle.layout.proofs.Limits.{within}
 use Rattle.layout.specs.Record.{Record, slotted, slotOf}
 use Rattle.layout.specs.Collection.{Collection}
 use Rattle.layout.proofs.Marks.{Marks, marks-none, marks-more, marks-skip}
-use Rattle.rules.specs.Sound.{ownSlot, soundAt, recordsSound, collectionSound}
+use Rattle.rules.specs.Sound.{soundAt, recordsSound, collectionSound}
 use Rattle.rules.specs.Costs.{recordCost, cheapest}
 use Rattle.rules.specs.Partial.{freeSlot, lowestFreeSlot}
 use Rattle.codec.specs.declared.StripeRecord.{StripeRecord}

@@ -3,7 +3,7 @@ use Prim.Native.Nat.{ℕ, _+_, _≤_}
 use native.Mathlib.Numerals.{add-one}
 use native.Mathlib.Omega.{arith}
 use mathlib.Core.Path.{_≡_}
-use mathlib.Core.Bool.{Bool, not, cond}
+use mathlib.Core.Bool.{Bool, not}
 use mathlib.Core.List.{List}
 use lib.ListN.{getD}
 use lib.Dec.{eqb}
@@ -15,6 +15,7 @@ use Rattle.layout.specs.Layout.{layoutOf, none}
 use Rattle.codec.specs.declared.StripeRecord.{StripeRecord}
 use Rattle.codec.specs.Views.{recordFrom, sixOf}
 use Rattle.names.specs.Stamps.{hasCurrent, hasOld, recordNames}
+use Rattle.ranges.proofs.Looks.{by-test}
 use Rattle.ranges.proofs.Tallies.{ones, count-more}
 
 -- number m of a list is a page
@@ -39,10 +40,10 @@ names-most e m = omega (arith, count-le m (given (e .current)), count-le m (give
 
 -- with the parity page, these are the names of the record
 pub names-all : (g : Geometry) (e : StripeRecord)
-    → namesTo e 6 + cond (eqb (e .parity) 65535) 0 1 ≡ recordNames (layoutOf g) (recordFrom (layoutOf g) e)
+    → namesTo e 6 + ones (not (eqb (e .parity) 65535)) ≡ recordNames (layoutOf g) (recordFrom (layoutOf g) e)
 unfolding recordNames recordFrom sixOf none
 names-all g e =
     let r = recordFrom (layoutOf g) e in
     let currents = count-cong 6 (given (e .current)) (hasCurrent (layoutOf g) r) (λ m h. rw (lt-ltb m 6 h)) in
     let olds = count-cong 6 (given (e .old)) (hasOld (layoutOf g) r) (λ m h. rw (lt-ltb m 6 h)) in
-    rw (currents, olds)
+    by-test (eqb (e .parity) 65535) (λ t. rw (currents, olds, t)) (λ t. rw (currents, olds, t))

@@ -1,5 +1,6 @@
 //! The checks of the records.
 
+use codec::NO_SLOT;
 use codec::NONE;
 use codec::StripeRecord;
 use codec::bit_of;
@@ -18,11 +19,12 @@ use ranges::Found;
 use ranges::Least;
 use ranges::found_in;
 use ranges::no_least;
+use ranges::ones;
 use ranges::with_next;
 ghost use mathlib.Core.Path.{_≡_};
 ghost use mathlib.Core.Bool.{true};
 ghost use Prim.Native.Nat.{ℕ, _+_, _≤_, _<_};
-ghost use Rattle.ranges.specs.Look.{firstBelow};
+ghost use Rattle.ranges.specs.Look.{firstBelow, foundIn};
 ghost use Rattle.layout.specs.Layout.{layoutOf, limits};
 ghost use Rattle.layout.specs.Record.{Record, recordAt};
 ghost use Rattle.layout.specs.Collection.{collectionAt};
@@ -68,7 +70,7 @@ fn record_passes(g: Geometry, e: StripeRecord) -> bool
         m += 1;
     }
     let slot = if e.bitmap == 0 {
-        e.slot == 255
+        e.slot == NO_SLOT
     } else {
         e.slot <= most
     };
@@ -82,18 +84,10 @@ fn names_of(e: StripeRecord) -> usize
     let mut names: usize = 0;
     let mut m = 0;
     while m < 6 {
-        if e.current[m] != NONE {
-            names += 1;
-        }
-        if e.old[m] != NONE {
-            names += 1;
-        }
+        names += ones(e.current[m] != NONE) + ones(e.old[m] != NONE);
         m += 1;
     }
-    if e.parity != NONE {
-        names += 1;
-    }
-    names
+    names + ones(e.parity != NONE)
 }
 
 // Whether the collection record is sound.
@@ -166,7 +160,7 @@ fn with_record(g: Geometry, j: usize, e: StripeRecord, ends: bool, taken: bool, 
 {
     let sound = t.sound & (ends & record_passes(g, e));
     let least = t.cheapest;
-    if e.slot == 255 {
+    if e.slot == NO_SLOT {
         return Tally {
             sound,
             own: t.own,
@@ -214,6 +208,20 @@ fn lowest_unmarked(marks: &[bool; 256], m: usize) -> Found
     Found::Nothing
 }
 
+// What the tally of all records and the table of the slots seen tell of the slots 0 to m.
+fn slots_told(t: Tally, seen: &[bool; 256], m: usize) -> SlotScan
+    requires { ⌜ m ≤ 254 ⌝ }
+    ensures { λ r. ⌜ r ≡ record { slotted = t .slotted; cheapest = foundIn (t .cheapest); free = firstBelow (m + 1) (unmarked (now (seen .entry))) } ⌝ }
+{
+    let least = t.cheapest;
+    let cheapest = found_in(least);
+    SlotScan {
+        slotted: t.slotted,
+        cheapest,
+        free: lowest_unmarked(seen, m),
+    }
+}
+
 // Whether the records are sound, how many page numbers they have on the chips that are there, and what they tell of the slots: one pass,
 // with a table of the slots seen. Of a record that is found plain only the page numbers matter.
 pub fn scan_records(g: Geometry, records: &[u8], lost: usize) -> RecordsScan
@@ -247,13 +255,7 @@ pub fn scan_records(g: Geometry, records: &[u8], lost: usize) -> RecordsScan
         j += 1;
     }
     let sound = tally.sound & tally.own & (tally.slotted <= most) & collection_passes(g, records);
-    let least = tally.cheapest;
-    let cheapest = found_in(least);
-    let slots = SlotScan {
-        slotted: tally.slotted,
-        cheapest,
-        free: lowest_unmarked(&seen, most),
-    };
+    let slots = slots_told(tally, &seen, most);
     RecordsScan {
         sound,
         names: names - gone,

@@ -39,14 +39,13 @@ module _ (l : Layout) where
     unfoldable pub namedCount : ℕ → ℕ
     namedCount b = countBelow K (namedIn l r c b)
 
-    -- "that has fewest pages named by records, lowest on ties"
+    -- "that has fewest pages named by records .., lowest on ties"
     unfoldable pub victimOf : Found
     victimOf = leastBelow B collectable namedCount
 
   -- the pages of chip c are x, as copies they are fed with `page`, and the records are r
   module _ (c : ℕ) (x : ℕ → Page) (page : ℕ → Feed) (r : ℕ → Record) where
-    -- "copy the named pages in ascending order to places 0, 1, ..": what is done of place i of the victim;
-    -- "A copied page is one read."
+    -- "copy the named pages in ascending order to places 0, 1, ..": what is done of place i of the victim
     unfoldable pub copyFrom : ℕ → ℕ → ℕ → List Step
     copyFrom victim destination i =
         cond (namedIn l r c victim i)
@@ -62,21 +61,23 @@ module _ (l : Layout) where
         plain (collection (phase 1 c victim destination))
         ∷ (stepsBelow K (copyFrom victim destination) ++ (plain (collection (phase 2 c victim destination)) ∷ []))
 
-    -- "the victim is ..; the destination is the lowest clean block"; what follows phase 2 is what open does of it
-    abbrev pub collectOf : Images → List Step
-    collectOf s =
-        whenFound (victimOf c x r)
-        (λ victim. whenFound (lowestCleanBlock l x)
-        (λ destination. andThen l (copySteps victim destination) (finishSteps l) s)
-        [])
-        []
-
-  -- page p of chip c, in the role that the record of its stripe has for it
+  -- page p of chip c, in the role that the record of its stripe has for it: "A copied page is one read."
   unfoldable pub copyFeed : ℕ → Images → ℕ → Feed
   copyFeed c s p =
       feedIn l s (pageAt l (s .chips) c p .stripe)
       (roleOf l c (pageAt l (s .chips) c p .stripe) (recordAt l (s .records) (pageAt l (s .chips) c p .stripe)) p)
 
-  -- the collection of chip c, from the images
+  -- the collection of a block of chip c: "the destination is the lowest clean block"; what follows phase 2 is what
+  -- open does of it
+  unfoldable pub collectBlock : ℕ → ℕ → Images → List Step
+  collectBlock c victim s =
+      whenFound (lowestCleanBlock l (pageAt l (s .chips) c))
+      (λ destination. andThen l
+      (copySteps c (pageAt l (s .chips) c) (copyFeed c s) (recordAt l (s .records)) victim destination)
+      (finishSteps l) s)
+      []
+
+  -- the collection of chip c: "the victim is .."
   unfoldable pub collectSteps : ℕ → Images → List Step
-  collectSteps c s = collectOf c (pageAt l (s .chips) c) (copyFeed c s) (recordAt l (s .records)) s
+  collectSteps c s =
+      whenFound (victimOf c (pageAt l (s .chips) c) (recordAt l (s .records))) (λ victim. collectBlock c victim s) []

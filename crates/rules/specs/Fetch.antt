@@ -1,7 +1,7 @@
 -- One page of a stripe, fetched in its role: what a read, a write, a commit and a copy take from the chips. y gives the pages of each
 -- chip, z the slots, and r is the record of stripe j.
 use Prim.Native.Nat.{ℕ, _+_}
-use mathlib.Core.Bool.{Bool, cond, not, _&&_}
+use mathlib.Core.Bool.{Bool, true, cond, not, _&&_}
 use mathlib.Core.List.{List, []}
 use lib.Dec.{eqb}
 use Rattle.ranges.specs.Look.{sumBelow}
@@ -17,7 +17,6 @@ use Rattle.rules.specs.declared.Role.{Role}
 use Rattle.rules.specs.declared.Role.the-variants.{Current, Old, Parity}
 use Rattle.rules.specs.declared.Origin.{Origin}
 use Rattle.rules.specs.declared.Origin.the-variants.{Unwritten, Direct, Partial, Full}
-use Rattle.rules.specs.Gather.{bytesAt, readsAt, gathered, gatheredReads}
 
 -- what a page is found to hold, the pages read for it, and how it was got
 pub record Fetched : Type 0 where
@@ -31,8 +30,12 @@ pub record Feed : Type 0 where
   pub reads : ℕ
 
 -- a page that was fetched
-abbrev pub fetched : Fetched → Feed
-fetched x = record { bytes = x .bytes; reads = x .reads }
+abbrev pub asFeed : Fetched → Feed
+asFeed x = record { bytes = x .bytes; reads = x .reads }
+
+-- a page that was put together from others
+abbrev pub through : Origin → Feed → Fetched
+through origin x = record { bytes = x .bytes; reads = x .reads; origin = origin }
 
 -- bytes at hand, for which no page is read
 abbrev pub given : List ℕ → Feed
@@ -48,6 +51,25 @@ fed x f = record { reads = x .reads; store = f (x .bytes) }
 
 module _ (l : Layout) where
   open Layout l using (N)
+
+  -- page p of chip c as it stands: "a page number of none adds zeros and no read"
+  unfoldable pub itself : (ℕ → ℕ → Page) → ℕ → ℕ → Fetched
+  itself y c p =
+      cond (isNone l p)
+      (record { bytes = []; reads = 0; origin = Unwritten })
+      (record { bytes = y c p .bytes; reads = 1; origin = Direct })
+
+  -- the XOR over the members that are chosen
+  unfoldable pub membersFeed : (ℕ → Bool) → (ℕ → Feed) → Feed
+  membersFeed chosen f =
+      record {
+        bytes = xorBelow N (λ m. cond (chosen m) (f m .bytes) []);
+        reads = sumBelow N (λ m. cond (chosen m) (f m .reads) 0);
+      }
+
+  -- over all members of stripe j, each with its page f m as it stands
+  unfoldable pub gathered : (ℕ → ℕ → Page) → ℕ → (ℕ → ℕ) → Feed
+  gathered y j f = membersFeed (λ m. true) (λ m. asFeed (itself y (memberChip l j m) (f m)))
 
   -- the chip of a page of stripe j
   abbrev pub chipIn : ℕ → Role → ℕ
@@ -74,32 +96,18 @@ module _ (l : Layout) where
   othersInside m r i = cond (bit r i && not (eqb i m)) (r .current i) (none l)
 
   module _ (y : ℕ → ℕ → Page) (z : ℕ → List ℕ) (j : ℕ) (r : Record) where
-    -- page p of chip c as it stands
-    abbrev pub itself : ℕ → ℕ → Fetched
-    itself c p = record { bytes = bytesAt l y c p; reads = readsAt l p; origin = cond (isNone l p) Unwritten Direct }
-
     -- "bit set, slot ⊕ the other pages of the bitmap"
     unfoldable pub throughPartial : ℕ → Fetched
-    throughPartial m =
-        record {
-          bytes = z (r .slot) ⊕ gathered l y j (othersInside m r);
-          reads = gatheredReads l (othersInside m r);
-          origin = Partial;
-        }
+    throughPartial m = through Partial (xored (given (z (r .slot))) (gathered y j (othersInside m r)))
 
     -- "bit clear, parity page ⊕ old page of each set member ⊕ current page of each other clear one"
     unfoldable pub throughParity : ℕ → Fetched
     throughParity m =
-        record {
-          bytes = bytesAt l y (parityChip l j) (r .parity) ⊕ gathered l y j (othersUnderParity m r);
-          reads = readsAt l (r .parity) + gatheredReads l (othersUnderParity m r);
-          origin = Full;
-        }
+        through Full (xored (asFeed (itself y (parityChip l j) (r .parity))) (gathered y j (othersUnderParity m r)))
 
     -- the parity page from the pages under it
     unfoldable pub parityAnew : Fetched
-    parityAnew =
-        record { bytes = gathered l y j (underParity r); reads = gatheredReads l (underParity r); origin = Full }
+    parityAnew = through Full (gathered y j (underParity r))
 
     -- "On the lost chip, a written page is gathered"
     abbrev pub rebuilt : Role → Fetched
@@ -111,21 +119,17 @@ module _ (l : Layout) where
     unfoldable pub fetchRole : ℕ → Role → Fetched
     fetchRole lost role =
         cond (eqb (chipIn j role) lost && not (isNone l (numberIn r role))) (rebuilt role)
-        (itself (chipIn j role) (numberIn r role))
+        (itself y (chipIn j role) (numberIn r role))
+
+    -- for a store; no chip is lost then
+    abbrev pub feedRole : Role → Feed
+    feedRole role = asFeed (fetchRole noChip role)
 
   -- from the images
   unfoldable pub fetchIn : Images → ℕ → ℕ → Role → Fetched
   fetchIn s lost j role =
       fetchRole (pageAt l (s .chips)) (slotAt l (s .slots)) j (recordAt l (s .records) j) lost role
 
-  -- for a store; no chip is lost then
+  -- the same for a store
   abbrev pub feedIn : Images → ℕ → Role → Feed
-  feedIn s j role = fetched (fetchIn s noChip j role)
-
-  -- the XOR over the members that are chosen
-  unfoldable pub membersFeed : (ℕ → Bool) → (ℕ → Feed) → Feed
-  membersFeed chosen f =
-      record {
-        bytes = xorBelow N (λ m. cond (chosen m) (f m .bytes) []);
-        reads = sumBelow N (λ m. cond (chosen m) (f m .reads) 0);
-      }
+  feedIn s j role = feedRole (pageAt l (s .chips)) (slotAt l (s .slots)) j (recordAt l (s .records) j) role

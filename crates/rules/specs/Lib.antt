@@ -1,7 +1,6 @@
 pub mod Names
 pub mod Blocks
 pub mod Sound
-pub mod Gather
 pub mod Fetch
 pub mod Read
 pub mod Costs

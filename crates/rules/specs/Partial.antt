@@ -62,7 +62,7 @@ module _ (l : Layout) where
       ∷ plain (stripe j (written m p i r))
       ∷ []
 
-  -- "Store into the lowest free slot the new partial parity. Store record j."
+  -- "Store into the lowest free slot the new partial parity: .. Store record j: .."
   unfoldable pub slotSteps : ℕ → ℕ → List ℕ → ℕ → Images → List Step
   slotSteps j m xs p s =
       whenFound (lowestFreeSlot (recordAt l (s .records))) (slotStores j m xs p s (recordAt l (s .records) j)) []

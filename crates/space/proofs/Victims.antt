@@ -9,7 +9,7 @@ use lib.Dec.{ltb}
 use borrow.Author.Tests.{not-true, not-false, lt-ltb, ltb-true}
 use Rattle.ranges.specs.declared.Found.{Found}
 use Rattle.ranges.specs.declared.Found.the-variants.{At, Nothing}
-use Rattle.ranges.specs.Look.{someBelow, better, leastBelow, leastSoFar, whenFound, foundIn}
+use Rattle.ranges.specs.Look.{someBelow, better, leastBelow, whenFound, foundIn}
 use Rattle.ranges.proofs.Looks.{by-test, some-at, some-none, least-at}
 use Rattle.ranges.proofs.Counts.{count-cong, count-all, count-less}
 use Rattle.ranges.proofs.Tests.{and-both}

@@ -1,7 +1,7 @@
 -- Where the record of a stripe has the number of a page, found from the page's tag; and the test of the page by that number.
-use Prim.Native.Nat.{ℕ, _+_, _-_, _*_, _≤_, _<_}
+use Prim.Native.Nat.{ℕ, _+_, _-_, _≤_, _<_}
 use native.Mathlib.Omega.{arith}
-use mathlib.Core.Path.{_≡_, refl, sym}
+use mathlib.Core.Path.{_≡_, refl}
 use mathlib.Core.Logic.{_≢_}
 use mathlib.Core.Bool.{Bool, true, false, _&&_, and-true, and-false}
 use mathlib.Core.List.{List}
@@ -136,11 +136,11 @@ module _ (g : Geometry) (xs : List ℕ) (x : ℕ → Page) (c p t j : ℕ) (limi
       (λ e. rw (stamp-is, e, ← own-field l c t j e) names-is)
       (λ e. rw (stamp-is, e, ← no-field l c t j e) refl)
 
--- ---- the fields of a block
+-- ---- the fields of many pages
 
 -- each is one of a record
-pub fields-fit : (g : Geometry) (c : ℕ) {tags stripes fields : List ℕ} → limits (layoutOf g) ≡ true → c ≤ g .n
-    → FieldsOf (layoutOf g) c tags stripes fields → FieldsFit (layoutOf g) stripes fields
-fields-fit g c {tags} {stripes} limited chip found =
+pub fields-fit : (g : Geometry) (c : ℕ) {count : ℕ} {tags stripes fields : List ℕ} → limits (layoutOf g) ≡ true → c ≤ g .n
+    → FieldsOf (layoutOf g) c count tags stripes fields → FieldsFit (layoutOf g) count stripes fields
+fields-fit g c {count} {tags} {stripes} limited chip found =
     let l = layoutOf g in
     record { fit = λ i h. rw (found .is i h) (field-fits l c (getD tags i 0) (getD stripes i 0) chip (within l limited .members-high)) }

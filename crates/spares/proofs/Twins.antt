@@ -1,20 +1,17 @@
 -- A page is the twin of at most one page of the victim, the one that it is copied from; so one table of counts serves all places.
 use Prim.Native.Nat.{ℕ, suc, _+_, _-_, _*_, _≤_, _<_}
-use native.Mathlib.Nat.{le-refl}
 use native.Mathlib.Numerals.{add-one}
 use native.Mathlib.Omega.{arith}
 use mathlib.Core.Path.{_≡_, refl, sym, ap, _∙_}
 use mathlib.Core.Bool.{Bool, true, false, not, _&&_, _||_}
 use mathlib.Core.List.{List}
 use mathlib.Core.Logic.{_≢_}
-use lib.ListN.{length, getD, set, replicate, length-set, getD-replicate}
+use lib.ListN.{getD, set, replicate, length-set, getD-replicate}
 use lib.Seq.{getD-set-same, getD-set-other}
 use lib.Dec.{eqb, ltb, leb}
 use borrow.Author.Tests.{eq-eqb, eqb-true, le-ltb, ltb-false, leb-true, leb-false}
-use Rattle.ranges.specs.declared.Found.{Found}
 use Rattle.ranges.specs.declared.Found.the-variants.{At, Nothing}
-use Rattle.ranges.specs.Look.{countBelow, firstBelow}
-use Rattle.ranges.proofs.Looks.{by-test, by-same, both, first-none, first-is, first-at, first-nothing}
+use Rattle.ranges.proofs.Looks.{by-test, by-same, first-none, first-is, first-at, first-nothing}
 use Rattle.ranges.proofs.Counts.{count-start, count-le, count-pass, count-fail}
 use Rattle.ranges.proofs.Tests.{and-both, neither, or-else}
 use Rattle.layout.specs.Layout.{Layout, pageIn}

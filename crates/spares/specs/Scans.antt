@@ -1,12 +1,11 @@
 -- What one pass over the spare bytes of a chip brings.
 use Prim.Native.Nat.{ℕ, _+_, _*_, _≤_, _<_}
 use mathlib.Core.Path.{_≡_}
-use mathlib.Core.Bool.{Bool, true, false, not, cond, _&&_, _||_}
+use mathlib.Core.Bool.{Bool, false, not, cond, _&&_, _||_}
 use mathlib.Core.List.{List, [], _∷_, map}
 use mathlib.Core.Logic.{_≢_}
-use lib.ListN.{length, getD}
+use lib.ListN.{getD}
 use lib.Dec.{eqb, ltb}
-use Rattle.ranges.specs.declared.Found.the-variants.{At}
 use Rattle.ranges.specs.Look.{allBelow, someBelow, countBelow, leastSoFar}
 use Rattle.layout.specs.Layout.{Layout, pageIn}
 use Rattle.layout.specs.Page.{Page}
@@ -16,24 +15,18 @@ use Rattle.layout.specs.Rotation.{parityChip, memberOn}
 use Rattle.rules.specs.Names.{kindOn, memberByte}
 use Rattle.rules.specs.Blocks.{cleanBlock, fullBlock, orderedBlock}
 use Rattle.rules.specs.Sound.{isLost, sparesSound}
-use Rattle.codec.specs.Scan.{tagOf, numberOf}
+use Rattle.codec.specs.Scan.{tagOf, firstOld, lastNumber, noIndex, numberOf}
 use Rattle.names.specs.Stamps.{byStamp}
 use Rattle.spares.specs.declared.block.Scan.{Scan}
 use Rattle.spares.specs.declared.ChipScan.{ChipScan}
 use Rattle.spares.specs.declared.block.Fill.{Fill}
 use Rattle.spares.specs.declared.Survey.{Survey}
 
--- record r has page p in this field, or as the old page beside it; 255 is no field, and the parity page (12) has no old one beside it
+-- record r has page p in this field, or as the old page beside it; the parity page has no old one beside it
 unfoldable pub hasNumber : Record → ℕ → ℕ → Bool
 hasNumber r field p =
-    not (eqb field 255)
-    && (eqb (numberOf r field) p || (not (eqb field 12) && eqb (numberOf r (6 + field)) p))
-
--- the arrays in which a block is looked at have room for its pages
-pub record Room (tags stripes fields : List ℕ) : Type 0 where
-  pub long-tags : length tags ≡ 128
-  pub long-stripes : length stripes ≡ 128
-  pub long-fields : length fields ≡ 128
+    not (eqb field noIndex)
+    && (eqb (numberOf r field) p || (not (eqb field lastNumber) && eqb (numberOf r (firstOld + field)) p))
 
 -- what stands for no chip
 abbrev pub unscanned : ChipScan
@@ -48,28 +41,28 @@ module _ (l : Layout) where
 
   -- the index of chip c's page number, the main one, in the record of stripe j
   unfoldable pub fieldOn : ℕ → ℕ → ℕ
-  fieldOn c j = cond (eqb c (parityChip l j)) 12 (memberOn l j c)
+  fieldOn c j = cond (eqb c (parityChip l j)) lastNumber (memberOn l j c)
 
   -- the tag of that page
   abbrev pub tagOn : ℕ → ℕ → ℕ
   tagOn c j = tagOf (kindOn l c j) (memberByte l c j)
 
-  -- the same index for a page of chip c with a tag and stripe j; 255 where the tag is not right or there is no such stripe
+  -- the same index for a page of chip c with a tag and stripe j; no index where the tag is not right or there is no such stripe
   unfoldable pub fieldOf : ℕ → ℕ → ℕ → ℕ
-  fieldOf c tag j = cond (eqb tag (tagOn c j) && ltb j S) (fieldOn c j) 255
+  fieldOf c tag j = cond (eqb tag (tagOn c j) && ltb j S) (fieldOn c j) noIndex
 
-  -- of all pages of a block
-  pub record FieldsOf (c : ℕ) (tags stripes fields : List ℕ) : Type 0 where
-    pub is : (i : ℕ) → i < K → getD fields i 0 ≡ fieldOf c (getD tags i 0) (getD stripes i 0)
+  -- of so many pages
+  pub record FieldsOf (c count : ℕ) (tags stripes fields : List ℕ) : Type 0 where
+    pub is : (i : ℕ) → i < count → getD fields i 0 ≡ fieldOf c (getD tags i 0) (getD stripes i 0)
 
   -- where there is a field, it is the parity's or a member's in the record of a stripe
   pub record FieldFits (j field : ℕ) : Type 0 where
-    pub stripe : field ≢ 255 → j < S
-    pub low : field ≢ 255 → field ≤ 12
-    pub member : field ≢ 255 → field ≢ 12 → field < 6
+    pub stripe : field ≢ noIndex → j < S
+    pub low : field ≢ noIndex → field ≤ lastNumber
+    pub member : field ≢ noIndex → field ≢ lastNumber → field < firstOld
 
-  pub record FieldsFit (stripes fields : List ℕ) : Type 0 where
-    pub fit : (i : ℕ) → i < K → FieldFits (getD stripes i 0) (getD fields i 0)
+  pub record FieldsFit (count : ℕ) (stripes fields : List ℕ) : Type 0 where
+    pub fit : (i : ℕ) → i < count → FieldFits (getD stripes i 0) (getD fields i 0)
 
   -- whether all pages of block b are clean, and whether none is
   unfoldable pub fillOf : (ℕ → Page) → ℕ → Fill

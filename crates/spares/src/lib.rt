@@ -3,16 +3,19 @@
 pub mod block;
 pub mod phase;
 
+use block::fields_of;
 use block::scan_block;
 use codec::CollectionRecord;
+use codec::scan::fetch_stamps;
 use layout::Geometry;
 use phase::phase_passes;
 use ranges::Least;
 use ranges::no_least;
 use ranges::with_next;
 ghost use mathlib.Core.Path.{_≡_};
-ghost use Prim.Native.Nat.{ℕ, _+_, _≤_, _<_};
-ghost use Rattle.layout.specs.Layout.{Layout, layoutOf};
+ghost use mathlib.Core.Bool.{true};
+ghost use Prim.Native.Nat.{ℕ, _-_, _*_, _≤_, _<_};
+ghost use Rattle.layout.specs.Layout.{Layout, layoutOf, limits};
 ghost use Rattle.layout.specs.Page.{Page, pageAt};
 ghost use Rattle.layout.specs.Record.{Record, recordAt};
 ghost use Rattle.layout.specs.Collection.{collectionAt};
@@ -21,7 +24,7 @@ ghost use Rattle.codec.specs.Fit.{ChipsFit, RecordsFit};
 ghost use Rattle.codec.specs.Views.{CollectionIs};
 ghost use Rattle.names.specs.Checked.{RecordsPass};
 ghost use Rattle.names.specs.Stamps.{namesKept};
-ghost use Rattle.spares.specs.Scans.{Room, chipScan, chipScans, survey};
+ghost use Rattle.spares.specs.Scans.{chipScan, chipScans, survey};
 
 // What the blocks of a chip that were looked at bring.
 pub struct ChipScan {
@@ -42,31 +45,60 @@ pub struct Survey {
     pub chips: [ChipScan; 7],
 }
 
-// Of chip c, with s of its blocks below b: the same with block b.
-fn with_block(
+// How many pages are looked at together, so that little is done for each block alone where blocks are small. No block has more.
+const TOGETHER: usize = 128;
+
+// The block behind those that are looked at together from block b on.
+fn next_stop(g: Geometry, b: usize) -> usize
+    requires { ⌜ (limits (layoutOf g) ≡ true) × (b < g .b) ⌝ }
+    ensures { λ r. ⌜ (b < r) × (r ≤ g .b) × ((r - b) * g .k ≤ 128) ⌝ }
+{
+    let blocks = g.b as usize;
+    let some = TOGETHER / g.k as usize;
+    if some < blocks - b { b + some } else { blocks }
+}
+
+// Of chip c, with s of its blocks below from: the same with the blocks below end.
+fn with_blocks(
     chips: &[u8],
     records: &[u8],
     g: Geometry,
     c: usize,
-    b: usize,
+    from: usize,
+    end: usize,
     s: ChipScan,
-    tags: &mut [u16; 128],
-    stripes: &mut [u16; 128],
-    fields: &mut [u16; 128],
 ) -> ChipScan
-    requires { ⌜ ChipsFit g (now chips) × RecordsFit g (now records) × (c ≤ g .n) × (b < g .b) × Room (now tags) (now stripes) (now fields)
-        × (s ≡ chipScan (layoutOf g) (recordAt (layoutOf g) (now records)) (pageAt (layoutOf g) (now chips) c) c b) ⌝ }
-    ensures { λ r. ⌜ (r ≡ chipScan (layoutOf g) (recordAt (layoutOf g) (now (records .entry))) (pageAt (layoutOf g) (now (chips .entry)) c) c (b + 1))
-        × Room (now (tags .exit)) (now (stripes .exit)) (now (fields .exit)) ⌝ }
+    requires { ⌜ ChipsFit g (now chips) × RecordsFit g (now records) × (c ≤ g .n) × (from < end) × (end ≤ g .b) × ((end - from) * g .k ≤ 128)
+        × (s ≡ chipScan (layoutOf g) (recordAt (layoutOf g) (now records)) (pageAt (layoutOf g) (now chips) c) c from) ⌝ }
+    ensures { λ r. ⌜ r ≡ chipScan (layoutOf g) (recordAt (layoutOf g) (now (records .entry))) (pageAt (layoutOf g) (now (chips .entry)) c) c end ⌝ }
 {
-    let scan = scan_block(chips, records, g, c, b, tags, stripes, fields);
     let k = g.k as usize;
-    let least = s.victim;
-    let victim = with_next(least, b, scan.full & (scan.named < k), scan.named);
+    let first = from * k;
+    let count = (end - from) * k;
+    let mut tags = [0u16; 128];
+    let mut stripes = [0u16; 128];
+    let mut fields = [0u16; 128];
+    fetch_stamps(chips, g, c, first, count, &mut tags, &mut stripes);
+    fields_of(g, c, count, &tags, &stripes, &mut fields);
+    let mut ordered = s.ordered;
+    let mut clean = s.clean;
+    let mut named = s.named;
+    let mut victim = s.victim;
+    let mut b = from;
+    let mut o = 0;
+    while b < end {
+        let scan = scan_block(records, g, first, o, &tags, &stripes, &fields);
+        victim = with_next(victim, b, scan.full & (scan.named < k), scan.named);
+        ordered = ordered & scan.ordered;
+        clean = clean | scan.clean;
+        named += scan.named;
+        b += 1;
+        o += k;
+    }
     ChipScan {
-        ordered: s.ordered & scan.ordered,
-        clean: s.clean | scan.clean,
-        named: s.named + scan.named,
+        ordered,
+        clean,
+        named,
         victim,
     }
 }
@@ -90,62 +122,38 @@ pub fn scan_chip(chips: &[u8], records: &[u8], g: Geometry, c: usize) -> ChipSca
     ensures { λ r. ⌜ r ≡ chipScan (layoutOf g) (recordAt (layoutOf g) (now (records .entry))) (pageAt (layoutOf g) (now (chips .entry)) c) c (g .b) ⌝ }
 {
     let blocks = g.b as usize;
-    let mut tags = [0u16; 128];
-    let mut stripes = [0u16; 128];
-    let mut fields = [0u16; 128];
     let mut scan = no_block();
     let mut b = 0;
     while b < blocks {
-        scan = with_block(
-            chips,
-            records,
-            g,
-            c,
-            b,
-            scan,
-            &mut tags,
-            &mut stripes,
-            &mut fields,
-        );
-        b += 1;
+        let end = next_stop(g, b);
+        scan = with_blocks(chips, records, g, c, b, end, scan);
+        b = end;
     }
     scan
 }
 
-// One look at each page's spare of every chip but the lost one. Block by block and not chip by chip: chips fill alike, so that a block's
-// stripes are mostly those of the same block on other chips, whose records were just looked at.
+// One look at each page's spare of every chip but the lost one. Some blocks of all chips and not chip by chip: chips fill alike, so that a
+// block's stripes are mostly those of the same block on other chips, whose records were just looked at.
 fn scan_all(chips: &[u8], records: &[u8], g: Geometry, lost: usize) -> [ChipScan; 7]
     requires { ⌜ ChipsFit g (now chips) × RecordsFit g (now records) ⌝ }
     ensures { λ r. ⌜ r ≡ chipScans (layoutOf g) (recordAt (layoutOf g) (now (records .entry))) (pageAt (layoutOf g) (now (chips .entry))) lost (g .b) ⌝ }
 {
     let blocks = g.b as usize;
     let n = g.n as usize;
-    let mut tags = [0u16; 128];
-    let mut stripes = [0u16; 128];
-    let mut fields = [0u16; 128];
     let first = no_block();
     let mut scans = [first; 7];
     let mut b = 0;
     while b < blocks {
+        let end = next_stop(g, b);
         let mut c = 0;
         while c <= n {
             if c != lost {
-                let scan = with_block(
-                    chips,
-                    records,
-                    g,
-                    c,
-                    b,
-                    scans[c],
-                    &mut tags,
-                    &mut stripes,
-                    &mut fields,
-                );
+                let scan = with_blocks(chips, records, g, c, b, end, scans[c]);
                 scans[c] = scan;
             }
             c += 1;
         }
-        b += 1;
+        b = end;
     }
     scans
 }

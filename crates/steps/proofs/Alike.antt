@@ -3,12 +3,10 @@ use Prim.Native.Nat.{ℕ, zero, suc, _+_, _-_, _*_, _/_, _%_, _≤_, _<_, min}
 use native.Mathlib.Nat.{mul-add-div-right, div-eq-of-lt, mul-add-mod-self-right, mod-eq-of-lt, add-zero, add-suc, mul-one, mul-le-mul, le-refl, le-of-lt, min-zero, min-eq-left, min-eq-right, sub-add-min-cancel, suc-mul, zero-mul}
 use native.Mathlib.Numerals.{add-one}
 use native.Mathlib.Omega.{arith}
-use mathlib.Core.Path.{_≡_, refl, sym, ap, _∙_}
-use mathlib.Core.Bool.{true}
+use mathlib.Core.Path.{_≡_, refl, ap}
 use mathlib.Core.List.{List, [], _∷_, _++_, append-assoc, append-nil}
-use lib.ListN.{length, take, length-append}
+use lib.ListN.{length, length-append}
 use lib.Seq.{take-nil, take-all, take-append-le}
-use lib.Arith.{digits-lt}
 use lib.Dec.{ltb}
 use borrow.Author.Tests.{ltb-true}
 use Rattle.ranges.proofs.Looks.{by-order, by-test}
@@ -21,13 +19,9 @@ use Rattle.steps.specs.Allowance.{after, applied, countingAll, Sane, Ran
 use Rattle.steps.specs.declared.Counts.{Counts}
 use Rattle.steps.specs.declared.Progress.{Progress}
 use Rattle.steps.proofs.Allowances.{count-append}
+use Rattle.steps.proofs.Lengths.{below-cong}
 
 -- ---- lists below a number
-
-pub below-same : (n : ℕ) (f g : ℕ → List Step) → ((i : ℕ) → i < n → f i ≡ g i) → stepsBelow n f ≡ stepsBelow n g
-unfolding stepsBelow
-below-same zero f g h = refl
-below-same (suc n) f g h = rw (below-same n f g (λ i low. h i (omega arith)), h n (le-refl (suc n)))
 
 -- the lists from m on follow those below m
 below-add : (m n : ℕ) (f : ℕ → List Step) → stepsBelow (m + n) f ≡ stepsBelow m f ++ stepsBelow n (λ i. f (m + i))
@@ -43,7 +37,7 @@ below-below (suc m) n f some =
     let f′ : ℕ → List Step = λ i. f (i / n) (i % n) in
     rw (suc-mul, below-add (m * n) n f′, below-below m n f some)
     (ap (λ (xs : List Step). stepsBelow (m * n) f′ ++ xs)
-    (below-same n (f m) (λ i. f′ (m * n + i)) (λ i low. rw (mul-add-div-right some m i, div-eq-of-lt low, add-zero, mul-add-mod-self-right m n i, mod-eq-of-lt low))))
+    (below-cong n (f m) (λ i. f′ (m * n + i)) (λ i low. rw (mul-add-div-right some m i, div-eq-of-lt low, add-zero, mul-add-mod-self-right m n i, mod-eq-of-lt low))))
 
 -- ---- numbers
 

@@ -18,7 +18,7 @@ use Rattle.steps.specs.Store.{Store, program, erase, slot, stripe, colle
 use Rattle.steps.specs.Steps.{Step, programsOf, erasesOf, counted, countedAll, andThen, stepsBelow, thenBelow, applyAll}
 use Rattle.steps.specs.declared.Counts.{Counts}
 use Rattle.steps.specs.declared.Progress.{Progress}
-use Rattle.steps.specs.Allowance.{after, applied, Sane, Ran}
+use Rattle.steps.specs.Allowance.{mostReads, after, applied, Sane, Ran}
 use Rattle.steps.proofs.Runs.{apply-append}
 
 -- the progress after one store for which so many pages were read, programmed and erased
@@ -93,7 +93,7 @@ module _ (l : Layout) where
   }
 
   -- one store that is made
-  pub ran-one : (p : Progress) (x : Step) (s t : Images) → Sane p → 0 < p .left → x .reads ≤ 8 → t ≡ apply l (x .store) s
+  pub ran-one : (p : Progress) (x : Step) (s t : Images) → Sane p → 0 < p .left → x .reads ≤ mostReads → t ≡ apply l (x .store) s
       → Ran l p (x ∷ []) (counting p (x .reads) (programsOf (x .store)) (erasesOf (x .store))) s t
   unfolding after countedAll counted applied applyAll
   ran-one p x s t h left reads e =

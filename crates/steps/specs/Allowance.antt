@@ -43,10 +43,13 @@ countingAll p n erases =
       cut = p .cut || ltb (p .left) n;
     }
 
--- No counter overflows a word of 64 bits: a store takes one of what is left, and counts at most eight reads (parity, six members, and one to
--- spare). What is cut has nothing left.
+-- the pages read for one store at most: parity, six members, and one to spare
+abbrev pub mostReads : ℕ
+mostReads = 8
+
+-- No counter overflows a word of 64 bits: a store takes one of what is left, and counts at most so many reads. What is cut has nothing left.
 pub record Sane (p : Progress) : Type 0 where
-  pub reads : p .counts .reads + 8 * p .left < 2 ^ 63
+  pub reads : p .counts .reads + mostReads * p .left < 2 ^ 63
   pub programs : p .counts .programs + p .left < 2 ^ 63
   pub erases : p .counts .erases + p .left < 2 ^ 63
   pub stores : p .counts .stores + p .left < 2 ^ 63

@@ -1,16 +1,21 @@
 -- The commit that a write may owe: what it leaves.
 use Prim.Native.Nat.{ℕ, _<_}
-use mathlib.Core.Path.{_≡_}
+use native.Mathlib.Omega.{arith}
+use mathlib.Core.Path.{_≡_, refl}
 use mathlib.Core.Bool.{true, false}
 use mathlib.Core.List.{List, []}
+use lib.ListN.{getD}
+use Rattle.ranges.specs.declared.Found.{Found}
 use Rattle.ranges.specs.declared.Found.the-variants.{At, Nothing}
-use Rattle.ranges.specs.Look.{whenFound}
+use Rattle.ranges.specs.Look.{whenFound, foundIn}
 use Rattle.ranges.proofs.Looks.{least-at}
 use Rattle.layout.specs.declared.Geometry.{Geometry}
 use Rattle.layout.specs.Layout.{Layout, layoutOf}
+use Rattle.layout.specs.Rotation.{parityChip}
 use Rattle.layout.specs.Record.{Record, recordAt, hasSlot, slotted}
 use Rattle.layout.specs.Collection.{collectionAt}
 use Rattle.layout.specs.Images.{Images}
+use Rattle.layout.proofs.Rotations.{parity-chip-fits}
 use Rattle.steps.specs.declared.Progress.{Progress}
 use Rattle.steps.specs.Allowance.{Ran, images}
 use Rattle.steps.proofs.Prefixes.{leads-weaken}
@@ -27,9 +32,12 @@ use Rattle.rules.proofs.Lists.Committing.{Committed, commit-closes}
 use Rattle.rules.proofs.Lists.Writing.{Ready, owed-leads}
 use Rattle.codec.specs.Fit.{SlotsFit}
 use Rattle.names.specs.Checked.{Settled}
+use Rattle.spares.specs.declared.ChipScan.{ChipScan}
+use Rattle.spares.specs.Scans.{unscanned}
+use Rattle.space.specs.Victims.{VictimFor, Victims}
 use Rattle.write.specs.Slots.{lowerOf}
-use Rattle.names.proofs.Statements.{usable, stripes, sound, checked}
-use Rattle.commit.proofs.Placing.{settled-at}
+use Rattle.names.proofs.Statements.{usable, sound}
+use Rattle.commit.proofs.Placing.{settled-at, known-victim}
 
 module _ {g : Geometry} {x r : List ℕ} (h : Settled g x r) where
   abbrev l : Layout
@@ -77,6 +85,21 @@ module _ (l : Layout) (j : ℕ) (s : Images) where
   pub owed-nothing : commitOwed l (recordAt l (s .records)) j ≡ true → cheapest l (recordAt l (s .records)) ≡ Nothing → owedSteps l j s ≡ []
   unfolding owedSteps whenFound
   owed-nothing e found = rw (e, found)
+
+-- a victim, and a chip, by other names
+pub same-victim : {g : Geometry} {x r : List ℕ} {c d : ℕ} {v u : Found} → c ≡ d → v ≡ u → VictimFor g x r d u → VictimFor g x r c v
+same-victim same e h = rw (same, e) h
+
+-- the victim that was scanned of a chip by another name
+pub victim-at : (scans : List ChipScan) {c d : ℕ} {v : Found} → v ≡ foundIn (getD scans c unscanned .victim) → c ≡ d → v ≡ foundIn (getD scans d unscanned .victim)
+victim-at scans e same = rw same at e
+
+-- the victim of the chip of the stripe to commit is known
+pub owed-victim : {g : Geometry} {x r : List ℕ} {scans : List ChipScan} {found u : Found} → Victims g x r scans
+    → u ≡ whenFound found (λ k. foundIn (getD scans (parityChip (layoutOf g) k) unscanned .victim)) Nothing
+    → (k : ℕ) → found ≡ At k → VictimFor g x r (parityChip (layoutOf g) k) u
+unfolding whenFound
+owed-victim {g} h e k is = known-victim h (omega (arith, parity-chip-fits (layoutOf g) k)) refl (rw is at e)
 
 -- the stripe to commit is there, and has a slot
 pub cheapest-slotted : (l : Layout) (r : ℕ → Record) {k : ℕ} → cheapest l r ≡ At k → (k < l .S) × (hasSlot (r k) ≡ true)

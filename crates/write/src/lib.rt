@@ -1,6 +1,8 @@
 //! A write as a whole: the commit that may be owed, room on the member's chip, the place, and what is stored there.
 
+use codec::NO_SLOT;
 use codec::member_chip;
+use codec::parity_chip;
 use codec::slot_at;
 use collect::make_room;
 use commit::commit_stripe;
@@ -15,11 +17,12 @@ use spares::ChipScan;
 use steps::Progress;
 ghost use mathlib.Core.Path.{_≡_};
 ghost use mathlib.Core.Bool.{true, false};
-ghost use Prim.Native.Nat.{_<_};
-ghost use lib.ListN.{length};
-ghost use Rattle.ranges.specs.Look.{countBelow};
-ghost use Rattle.layout.specs.Layout.{layoutOf};
-ghost use Rattle.layout.specs.Rotation.{memberChip};
+ghost use Prim.Native.Nat.{ℕ, _<_};
+ghost use lib.ListN.{length, getD};
+ghost use Rattle.ranges.specs.declared.Found.the-variants.{At, Nothing};
+ghost use Rattle.ranges.specs.Look.{countBelow, whenFound, foundIn};
+ghost use Rattle.layout.specs.Layout.{layoutOf, limits};
+ghost use Rattle.layout.specs.Rotation.{memberChip, parityChip};
 ghost use Rattle.layout.specs.Record.{recordAt, slotted as slottedAt};
 ghost use Rattle.rules.specs.Room.{placed};
 ghost use Rattle.rules.specs.Partial.{lowestFreeSlot, writeAt};
@@ -28,15 +31,16 @@ ghost use Rattle.steps.specs.Allowance.{Sane, Ran, images};
 ghost use Rattle.codec.specs.Fit.{RecordsFit, SlotsFit};
 ghost use Rattle.names.specs.Checked.{Settled};
 ghost use Rattle.records.specs.Slots.{slotScan};
+ghost use Rattle.spares.specs.Scans.{unscanned};
 ghost use Rattle.space.specs.Victims.{VictimFor, Victims};
 ghost use Rattle.write.specs.Slots.{lowerOf};
 
 // Whether stripe j has no slot and M records have; slotted is how many have one.
-pub fn is_owed(records: &[u8], g: Geometry, j: usize, slotted: usize) -> bool
+fn is_owed(records: &[u8], g: Geometry, j: usize, slotted: usize) -> bool
     requires { ⌜ RecordsFit g (now records) × (j < g .s) × (slotted ≡ countBelow (g .s) (slottedAt (recordAt (layoutOf g) (now records)))) ⌝ }
     ensures { λ r. ⌜ r ≡ commitOwed (layoutOf g) (recordAt (layoutOf g) (now (records .entry))) j ⌝ }
 {
-    (slot_at(records, g, j) == 255) & (slotted == g.m as usize)
+    (slot_at(records, g, j) == NO_SLOT) & (slotted == g.m as usize)
 }
 
 // The lower of the free slot, if any, and slot t.
@@ -49,6 +53,17 @@ fn lower(free: Found, t: usize) -> Found
     }
 }
 
+// The victim of the chip that the parity of the cheapest stripe is on.
+fn commit_victim(g: Geometry, scans: [ChipScan; 7], cheapest: Found) -> Found
+    requires { ⌜ limits (layoutOf g) ≡ true ⌝ }
+    ensures { λ r. ⌜ r ≡ whenFound cheapest (λ k. foundIn (getD scans (parityChip (layoutOf g) k) unscanned .victim)) Nothing ⌝ }
+{
+    match cheapest {
+        Found::At(k) => victim_in(scans[parity_chip(g, k)]),
+        Found::Nothing => Found::Nothing,
+    }
+}
+
 // What the commit leaves that is owed before a write.
 struct Owed {
     run: Progress,
@@ -56,19 +71,21 @@ struct Owed {
     free: Found,
 }
 
-// Commits the stripe of least cost, which is owed for a write to stripe j. Its slot is free then.
+// Commits the stripe of least cost, which is owed for a write to stripe j; v is the victim of its parity chip. Its slot is free then.
 fn commit_owed(
     chips: &mut [u8],
     records: &mut [u8],
     slots: &[u8],
+    work: &mut [u8],
     g: Geometry,
     j: usize,
-    scans: [ChipScan; 7],
+    v: Found,
     seen: SlotScan,
     p: Progress,
 ) -> Owed
-    requires { ⌜ Settled g (now chips) (now records) × SlotsFit g (now slots) × Sane p
-        × (commitOwed (layoutOf g) (recordAt (layoutOf g) (now records)) j ≡ true) × Victims g (now chips) (now records) scans
+    requires { ⌜ Settled g (now chips) (now records) × SlotsFit g (now slots) × (length (now work) ≡ g .w) × Sane p
+        × (commitOwed (layoutOf g) (recordAt (layoutOf g) (now records)) j ≡ true)
+        × ((k : ℕ) → seen .cheapest ≡ At k → VictimFor g (now chips) (now records) (parityChip (layoutOf g) k) v)
         × (seen ≡ slotScan (layoutOf g) (recordAt (layoutOf g) (now records))) ⌝ }
     ensures { λ r. ⌜ Ran (layoutOf g) p (owedSteps (layoutOf g) j (images (now (chips .entry)) (now (records .entry)) (now (slots .entry))))
         (r .run) (images (now (chips .entry)) (now (records .entry)) (now (slots .entry))) (images (now (chips .exit)) (now (records .exit)) (now (slots .entry)))
@@ -79,7 +96,7 @@ fn commit_owed(
     match cheapest {
         Found::At(k) => {
             let t = slot_at(records, g, k);
-            let run = commit_stripe(chips, records, slots, g, k, scans, p);
+            let run = commit_stripe(chips, records, slots, work, g, k, v, p);
             Owed {
                 run,
                 free: lower(free, t),
@@ -89,34 +106,41 @@ fn commit_owed(
     }
 }
 
-// Finds a place for member m of stripe j and writes it there; v is the victim of its chip, and free the lowest free slot.
+// Finds a place for member m of stripe j and writes it there; free is the lowest free slot. The victim of its chip is v, or is looked for
+// anew here, so that the arrays of that look do not stand on the stack below the whole write.
 fn place_member(
     chips: &mut [u8],
     records: &mut [u8],
     slots: &mut [u8],
+    work: &mut [u8],
     g: Geometry,
     j: usize,
     m: usize,
     bytes: &[u8],
+    anew: bool,
     v: Found,
     free: Found,
     p: Progress,
 ) -> Progress
-    requires { ⌜ Settled g (now chips) (now records) × SlotsFit g (now slots) × (j < g .s) × (m < g .n) × (length (now bytes) ≡ g .w) × Sane p
-        × VictimFor g (now chips) (now records) (memberChip (layoutOf g) j m) v
+    requires { ⌜ Settled g (now chips) (now records) × SlotsFit g (now slots) × (length (now work) ≡ g .w) × (j < g .s) × (m < g .n) × (length (now bytes) ≡ g .w) × Sane p
+        × (anew ≡ false → VictimFor g (now chips) (now records) (memberChip (layoutOf g) j m) v)
         × (free ≡ lowestFreeSlot (layoutOf g) (recordAt (layoutOf g) (now records))) ⌝ }
     ensures { λ r. ⌜ Ran (layoutOf g) p
         (placed (layoutOf g) (memberChip (layoutOf g) j m) (writeAt (layoutOf g) j m (now (bytes .entry))) (images (now (chips .entry)) (now (records .entry)) (now (slots .entry))))
         r (images (now (chips .entry)) (now (records .entry)) (now (slots .entry))) (images (now (chips .exit)) (now (records .exit)) (now (slots .exit))) ⌝ }
 {
     let c = member_chip(g, j, m);
-    let run = make_room(chips, records, slots, g, c, v, p);
+    let mut victim = v;
+    if anew {
+        victim = victim_on(chips, records, g, c);
+    }
+    let run = make_room(chips, records, slots, work, g, c, victim, p);
     // past a cut there may be no place yet
     if run.cut {
         return run;
     }
     match place_on(chips, g, c) {
-        Found::At(q) => write_at(chips, records, slots, g, j, m, bytes, q, free, run),
+        Found::At(q) => write_at(chips, records, slots, work, g, j, m, bytes, q, free, run),
         Found::Nothing => run,
     }
 }
@@ -126,6 +150,7 @@ pub fn write_member(
     chips: &mut [u8],
     records: &mut [u8],
     slots: &mut [u8],
+    work: &mut [u8],
     g: Geometry,
     j: usize,
     m: usize,
@@ -134,26 +159,26 @@ pub fn write_member(
     seen: SlotScan,
     p: Progress,
 ) -> Progress
-    requires { ⌜ Settled g (now chips) (now records) × SlotsFit g (now slots) × (j < g .s) × (m < g .n) × (length (now bytes) ≡ g .w) × Sane p
+    requires { ⌜ Settled g (now chips) (now records) × SlotsFit g (now slots) × (length (now work) ≡ g .w) × (j < g .s) × (m < g .n) × (length (now bytes) ≡ g .w) × Sane p
         × Victims g (now chips) (now records) scans × (seen ≡ slotScan (layoutOf g) (recordAt (layoutOf g) (now records))) ⌝ }
     ensures { λ r. ⌜ Ran (layoutOf g) p
         (writeMember (layoutOf g) j m (now (bytes .entry)) (images (now (chips .entry)) (now (records .entry)) (now (slots .entry))))
         r (images (now (chips .entry)) (now (records .entry)) (now (slots .entry))) (images (now (chips .exit)) (now (records .exit)) (now (slots .exit))) ⌝ }
 {
-    let chip = member_chip(g, j, m);
+    let v = victim_in(scans[member_chip(g, j, m)]);
+    let cheapest = seen.cheapest;
+    let u = commit_victim(g, scans, cheapest);
     if !is_owed(records, g, j, seen.slotted) {
-        let v = victim_in(scans[chip]);
-        let free = seen.free;
-        return place_member(chips, records, slots, g, j, m, bytes, v, free, p);
+        let i = seen.free;
+        return place_member(chips, records, slots, work, g, j, m, bytes, false, v, i, p);
     }
-    let owed = commit_owed(chips, records, slots, g, j, scans, seen, p);
+    let owed = commit_owed(chips, records, slots, work, g, j, u, seen, p);
     let run = owed.run;
     // past a cut no store is made, and the images are not those that the next part is worked out from
     if run.cut {
         return run;
     }
+    let i = owed.free;
     // a commit changes what the records name, and so the victims
-    let v = victim_on(chips, records, g, chip);
-    let free = owed.free;
-    place_member(chips, records, slots, g, j, m, bytes, v, free, run)
+    place_member(chips, records, slots, work, g, j, m, bytes, true, v, i, run)
 }

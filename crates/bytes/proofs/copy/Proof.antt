@@ -19,14 +19,5 @@ loop-again c = stored-more (c .before .before .loop .inv) (omega arith) refl
 pub copy-spec : {M : Type 1} → statement M
 copy-spec =
     tie.close
-    (tie.spec
-    Inv-loop
-    μ-loop
-    (λ c. stored-none (c .pre))
-    (λ c. search needs)
-    (λ c. search needs)
-    (λ c. search needs)
-    (λ c. search needs)
-    loop-again
-    (λ c. c .before .loop .inv .same)
-    (λ c. stored-all (c .before .loop .inv) (omega arith)))
+    (tie.spec Inv-loop μ-loop (λ c. stored-none (c .pre)) (λ c. search needs) (λ c. search needs) (λ c. search needs) (λ c. search needs)
+    loop-again (λ c. c .before .loop .inv .same) (λ c. stored-all (c .before .loop .inv) (omega arith)))

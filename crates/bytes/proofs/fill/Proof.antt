@@ -21,13 +21,5 @@ loop-again c =
 pub fill-spec : {M : Type 1} → statement M
 fill-spec =
     tie.close
-    (tie.spec
-    Inv-loop
-    μ-loop
-    (λ c. stored-none (length-replicate (length (c .args .dst .now)) (c .args .b)))
-    (λ c. search needs)
-    (λ c. search needs)
-    (λ c. search needs)
-    loop-again
-    (λ c. c .before .loop .inv .same)
-    (λ c. stored-all (c .before .loop .inv) (omega arith)))
+    (tie.spec Inv-loop μ-loop (λ c. stored-none (length-replicate (length (c .args .dst .now)) (c .args .b))) (λ c. search needs)
+    (λ c. search needs) (λ c. search needs) loop-again (λ c. c .before .loop .inv .same) (λ c. stored-all (c .before .loop .inv) (omega arith)))

@@ -22,15 +22,6 @@ loop-again c =
 pub xor-into-spec : {M : Type 1} → statement M
 xor-into-spec =
     tie.close
-    (tie.spec
-    Inv-loop
-    μ-loop
-    (λ c. stored-none (length-xors-left (c .args .dst .now) (c .args .src .now) (omega arith)))
-    (λ c. search needs)
-    (λ c. search needs)
-    (λ c. search needs)
-    (λ c. search needs)
-    (λ c. search needs)
-    loop-again
-    (λ c. c .before .loop .inv .same)
+    (tie.spec Inv-loop μ-loop (λ c. stored-none (length-xors-left (c .args .dst .now) (c .args .src .now) (omega arith))) (λ c. search needs)
+    (λ c. search needs) (λ c. search needs) (λ c. search needs) (λ c. search needs) loop-again (λ c. c .before .loop .inv .same)
     (λ c. stored-all (c .before .loop .inv) (omega arith)))

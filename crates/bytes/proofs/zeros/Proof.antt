@@ -26,10 +26,8 @@ loop-again c =
     let l = c .before .before .loop in
     (omega arith, zero-more (c .before .before .before .args .s .now) (l .i) (l .acc) (l .inv .1))
 
-returns : tie.Need-returns Inv-loop μ-loop
-returns c = rw (c .before .loop .inv .1, take-all (c .before .loop .i) (c .before .before .args .s .now) (omega arith))
-
 pub zeros-spec : {M : Type 1} → statement M
 zeros-spec =
     tie.close
-    (tie.spec Inv-loop μ-loop loop-holds (λ c. search needs) (λ c. search needs) (λ c. search needs) loop-again returns)
+    (tie.spec Inv-loop μ-loop loop-holds (λ c. search needs) (λ c. search needs) (λ c. search needs) loop-again
+    (λ c. rw (c .before .loop .inv .1, take-all (c .before .loop .i) (c .before .before .args .s .now) (omega arith))))

@@ -1,5 +1,5 @@
 -- Refused, or the list run from the start of the allowance.
-use mathlib.Core.Path.{_≡_, sym, _∙_}
+use mathlib.Core.Path.{sym, _∙_}
 use borrow.Author.Needs.{needs}
 use Rattle.layout.proofs.Limits.{within}
 use Rattle.looks.proofs.Passing.{buffers-fit}

@@ -27,6 +27,5 @@ pub collection-at-spec : {M : Type 1} → statement M
 unfolding recordsLength
 collection-at-spec =
     tie.close
-    (tie.spec
-    (λ c. omega arith) (λ c κs. omega arith) (λ c. omega arith) (λ c κs. omega arith) (λ c. omega arith)
-    (λ c κs. omega arith) (λ c. omega arith) (λ c κs. omega arith) returns)
+    (tie.spec (λ c. omega arith) (λ c κs. omega arith) (λ c. omega arith) (λ c κs. omega arith) (λ c. omega arith) (λ c κs. omega arith)
+    (λ c. omega arith) (λ c κs. omega arith) returns)

@@ -14,5 +14,5 @@ returns c =
 pub is-clean-spec : {M : Type 1} → statement M
 is-clean-spec =
     tie.close
-    (tie.spec
-    (λ c κs. search needs) (λ c. search needs) (λ c κs. search needs) (λ c. omega (arith, c .byte .ensures .1)) (λ c κs. search needs) returns)
+    (tie.spec (λ c κs. search needs) (λ c. search needs) (λ c κs. search needs) (λ c. omega (arith, c .byte .ensures .1)) (λ c κs. search needs)
+    returns)

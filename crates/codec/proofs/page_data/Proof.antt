@@ -17,8 +17,4 @@ returns c =
     ((cc), length-part (c .before .page-offset .result) (a .g .w) (a .chips .now) (omega arith))
 
 pub page-data-spec : {M : Type 1} → statement M
-page-data-spec =
-    tie.close
-    (tie.spec
-    (λ c κs. search needs) (λ c. search needs) (λ c. search needs) (λ c. search needs)
-    (λ c. search needs) returns)
+page-data-spec = tie.close (tie.spec (λ c κs. search needs) (λ c. search needs) (λ c. search needs) (λ c. search needs) (λ c. search needs) returns)

@@ -26,6 +26,7 @@ returns-5 c =
 pub parity-chip-spec : {M : Type 1} → statement M
 parity-chip-spec =
     tie.close
-    (tie.spec
-    (λ c. search needs) (λ c. search needs) (λ c. search needs) (λ c. search needs) (λ c. search needs)
-    (λ c. rotated (c .before .args .g) (c .before .args .j) 2 (c .match .keys1)) (λ c. rotated (c .before .args .g) (c .before .args .j) 3 (c .match .keys2)) returns-3 (λ c. rotated (c .before .args .g) (c .before .args .j) 5 (c .match .keys4)) returns-5)
+    (tie.spec (λ c. search needs) (λ c. search needs) (λ c. search needs) (λ c. search needs) (λ c. search needs)
+    (λ c. rotated (c .before .args .g) (c .before .args .j) 2 (c .match .keys1))
+    (λ c. rotated (c .before .args .g) (c .before .args .j) 3 (c .match .keys2)) returns-3
+    (λ c. rotated (c .before .args .g) (c .before .args .j) 5 (c .match .keys4)) returns-5)

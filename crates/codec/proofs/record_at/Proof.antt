@@ -1,6 +1,7 @@
 -- Record j is 32 bytes at j * 32, so every read is inside the records, and what the calls give is what the record's own bytes hold.
 use native.Mathlib.Omega.{arith}
 use mathlib.Core.Path.{ap}
+use borrow.Author.Needs.{needs}
 use Rattle.layout.specs.Layout.{layoutOf}
 use Rattle.layout.specs.Images.{recordsLength}
 use Rattle.codec.specs.Views.{recordFrom}
@@ -19,20 +20,12 @@ returns c =
         bitmap = c .before .byte .ensures .0 i;
         slot = c .byte2 .ensures .0 i;
       })),
-      record {
-        current = c .before .before .before .before .six-at .ensures .1;
-        old = c .before .before .before .six-at2 .ensures .1;
-        parity = c .before .before .number-at .ensures .1;
-        bitmap = c .before .byte .ensures .1;
-        slot = c .byte2 .ensures .1;
-      },
+      search needs,
     )
 
 pub record-at-spec : {M : Type 1} → statement M
 unfolding recordsLength
 record-at-spec =
     tie.close
-    (tie.spec
-    (λ c. omega arith) (λ c κs. omega arith) (λ c. omega arith) (λ c κs. omega arith) (λ c. omega arith)
-    (λ c κs. omega arith) (λ c. omega arith) (λ c κs. omega arith) (λ c. omega arith)
-    (λ c κs. omega arith) returns)
+    (tie.spec (λ c. omega arith) (λ c κs. omega arith) (λ c. omega arith) (λ c κs. omega arith) (λ c. omega arith) (λ c κs. omega arith)
+    (λ c. omega arith) (λ c κs. omega arith) (λ c. omega arith) (λ c κs. omega arith) returns)

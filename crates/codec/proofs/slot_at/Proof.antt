@@ -18,7 +18,4 @@ returns c =
 
 pub slot-at-spec : {M : Type 1} → statement M
 unfolding recordsLength
-slot-at-spec =
-    tie.close
-    (tie.spec
-    (λ c. omega arith) (λ c. omega arith) (λ c κs. omega arith) returns)
+slot-at-spec = tie.close (tie.spec (λ c. omega arith) (λ c. omega arith) (λ c κs. omega arith) returns)

@@ -24,5 +24,5 @@ returns c =
 pub slot-data-spec : {M : Type 1} → statement M
 slot-data-spec =
     tie.close
-    (tie.spec
-    (λ c. omega (arith, fits c)) (λ c. omega (arith, fits c)) (λ c. search needs) (λ c. search needs) (λ c. omega (arith, fits c)) returns)
+    (tie.spec (λ c. omega (arith, fits c)) (λ c. omega (arith, fits c)) (λ c. search needs) (λ c. search needs) (λ c. omega (arith, fits c))
+    returns)

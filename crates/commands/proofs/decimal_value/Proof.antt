@@ -18,9 +18,6 @@ loop-holds : tie.Need-loop-holds Inv-loop μ-loop
 unfolding decimalValue
 loop-holds c = (omega arith, refl)
 
-mul-n : tie.Need-mul-n Inv-loop μ-loop
-mul-n c = omega (arith, value-small (c .before .before .before .args .s .now) (c .before .loop .i) (omega arith))
-
 add-n : tie.Need-add-n Inv-loop μ-loop
 add-n c =
     let l = c .before .before .before .before .loop in
@@ -35,22 +32,10 @@ loop-again c =
     let byte = c .before .before .byte-at .ensures in
     (omega arith, rw (l .inv .1, c .wide .ensures, digit, byte) (sym (value-next s (l .i))))
 
-returns : tie.Need-returns Inv-loop μ-loop
-returns c = let e : c .before .loop .i ≡ c .before .before .before .args .k = omega arith in cc
-
 pub decimal-value-spec : {M : Type 1} → statement M
 decimal-value-spec =
     tie.close
-    (tie.spec
-    Inv-loop
-    μ-loop
-    loop-holds
-    mul-n
-    (λ c κs. search needs)
-    (λ c κs. search needs)
-    (λ c κs. search needs)
-    add-n
-    (λ c. search needs)
-    (λ c. search needs)
-    loop-again
-    returns)
+    (tie.spec Inv-loop μ-loop loop-holds
+    (λ c. omega (arith, value-small (c .before .before .before .args .s .now) (c .before .loop .i) (omega arith))) (λ c κs. search needs)
+    (λ c κs. search needs) (λ c κs. search needs) add-n (λ c. search needs) (λ c. search needs) loop-again
+    (λ c. let e : c .before .loop .i ≡ c .before .before .before .args .k = omega arith in cc))

@@ -30,5 +30,4 @@ unfolding digitValue
 returns-3 c = rw (c .before .if1 .left, c .if2 .left)
 
 pub digit-value-spec : {M : Type 1} → statement M
-digit-value-spec =
-    tie.close (tie.spec sub-result sub-result-2 (λ c. search needs) returns returns-2 returns-3)
+digit-value-spec = tie.close (tie.spec sub-result sub-result-2 (λ c. search needs) returns returns-2 returns-3)

@@ -40,9 +40,6 @@ is-numbered c = sym (c .before .is-numbered .ensures) ∙ not-false (c .before .
 few : (c : tie.Else2) → k₂ c ≤ 5
 few c = numbered-is (line₂ c) (k₂ c) (is-numbered c) .few
 
-returns : tie.Need-returns
-returns c = c .no-command .ensures ∙ sym (short-line (c .before .before .before .args .line .now) (c .before .if1 .taken))
-
 returns-2 : tie.Need-returns-2
 returns-2 c =
     let d = c .before .before .before in
@@ -85,29 +82,11 @@ returns-5 c =
 pub parse-spec : {M : Type 1} → statement M
 parse-spec =
     tie.close
-    (tie.spec
-    (λ c κs. search needs)
-    returns
-    (λ c. search needs)
-    (λ c. search needs)
-    (λ c. search needs)
-    (λ c κs. search needs)
-    (λ c κs. search needs)
-    (λ c κs. search needs)
-    returns-2
-    (λ c κs. search needs)
-    (λ c. search needs)
-    (λ c. search needs)
-    (λ c. search needs)
-    (λ c κs. few (c .before .before))
-    (λ c κs. few (c .before .before .before))
-    returns-3
-    (λ c κs. few (c .before .before .before .before .before))
-    (λ c. omega (arith, few (c .before .before .before .before .before .before .before)))
-    (λ c κs. search needs)
-    (λ c. omega (arith, few (c .before .before .before .before .before .before .before .before)))
-    (λ c κs. search needs)
-    byte-value-requires
-    returns-4
-    (λ c κs. search needs)
-    returns-5)
+    (tie.spec (λ c κs. search needs)
+    (λ c. c .no-command .ensures ∙ sym (short-line (c .before .before .before .args .line .now) (c .before .if1 .taken))) (λ c. search needs)
+    (λ c. search needs) (λ c. search needs) (λ c κs. search needs) (λ c κs. search needs) (λ c κs. search needs) returns-2 (λ c κs. search needs)
+    (λ c. search needs) (λ c. search needs) (λ c. search needs) (λ c κs. few (c .before .before)) (λ c κs. few (c .before .before .before))
+    returns-3 (λ c κs. few (c .before .before .before .before .before))
+    (λ c. omega (arith, few (c .before .before .before .before .before .before .before))) (λ c κs. search needs)
+    (λ c. omega (arith, few (c .before .before .before .before .before .before .before .before))) (λ c κs. search needs) byte-value-requires
+    returns-4 (λ c κs. search needs) returns-5)

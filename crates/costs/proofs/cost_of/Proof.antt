@@ -8,9 +8,6 @@ use Rattle.rules.specs.Costs.{costOf}
 use Rattle.costs.proofs.cost_of.Statement.{statement}
 use Rattle.costs.proofs.cost_of.Tie as tie
 
-add-result : tie.Need-add-result
-add-result c = let s = c .before .before in omega (arith, s .pre .1, within (layoutOf (s .args .g)) (s .pre .0) .members-high)
-
 returns : tie.Need-returns
 unfolding costOf
 returns c =
@@ -27,4 +24,6 @@ returns-2 c =
 
 pub cost-of-spec : {M : Type 1} → statement M
 cost-of-spec =
-    tie.close (tie.spec (λ c κs. search needs) (λ c. search needs) add-result returns returns-2)
+    tie.close
+    (tie.spec (λ c κs. search needs) (λ c. search needs)
+    (λ c. let s = c .before .before in omega (arith, s .pre .1, within (layoutOf (s .args .g)) (s .pre .0) .members-high)) returns returns-2)

@@ -24,12 +24,6 @@ abbrev μ-loop : tie.MeasureT-loop
 loop-holds : tie.Need-loop-holds Inv-loop μ-loop
 loop-holds c = (omega arith, sym (count-start (testBit (c .args .bitmap))))
 
-bit-of-requires : tie.Need-bit-of-requires Inv-loop μ-loop
-bit-of-requires c κs = let s = c .before .before in omega (arith, within (layoutOf (s .args .g)) (s .pre) .members-high)
-
-add-p : tie.Need-add-p Inv-loop μ-loop
-add-p c = omega (arith, count-le (c .before .before .before .loop .m) (testBit (c .before .before .before .before .args .bitmap)))
-
 loop-again : tie.Need-loop-again Inv-loop μ-loop
 loop-again c =
     let o = c .before .before .before .loop in
@@ -51,4 +45,7 @@ returns c =
 pub set-bits-spec : {M : Type 1} → statement M
 set-bits-spec =
     tie.close
-    (tie.spec Inv-loop μ-loop loop-holds bit-of-requires add-p (λ c. omega arith) (λ c. omega arith) loop-again returns)
+    (tie.spec Inv-loop μ-loop loop-holds
+    (λ c κs. let s = c .before .before in omega (arith, within (layoutOf (s .args .g)) (s .pre) .members-high))
+    (λ c. omega (arith, count-le (c .before .before .before .loop .m) (testBit (c .before .before .before .before .args .bitmap))))
+    (λ c. omega arith) (λ c. omega arith) loop-again returns)

@@ -1,9 +1,10 @@
--- Either number is the lesser of the two, and from at most 2^59 stores no counter overflows.
+-- From at most 2^59 stores no counter overflows.
 use Prim.Native.Nat.{ℕ, _^_, _≤_}
-use native.Mathlib.Nat.{min-eq-left, min-eq-right}
+use native.Mathlib.Nat.{min-le-right}
 use native.Mathlib.Omega.{arith}
-use mathlib.Core.Path.{ap, sym}
+use mathlib.Core.Path.{ap}
 use mathlib.Core.Bool.{false≢true}
+use borrow.Author.Needs.{needs}
 use Rattle.steps.specs.Steps.{noCounts}
 use Rattle.steps.specs.Allowance.{started, Sane}
 use Rattle.device.proofs.start.Statement.{statement}
@@ -21,7 +22,7 @@ sane n h =
     }
 
 returns : tie.Need-returns
-returns c = (ap (started noCounts) (sym (min-eq-left (omega arith))), sane (c .before .args .allowance) (omega arith))
+returns c = let x = c .lesser in (ap (started noCounts) (x .ensures), sane (x .result) (rw (x .ensures) (min-le-right (c .before .args .allowance) (2 ^ 59))))
 
 pub start-spec : {M : Type 1} → statement M
-start-spec = tie.close (tie.spec returns (λ c. (ap (started noCounts) (sym (min-eq-right (omega arith))), sane (2 ^ 59) (omega arith))))
+start-spec = tie.close (tie.spec (λ c κs. search needs) returns)

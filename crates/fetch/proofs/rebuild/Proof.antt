@@ -10,11 +10,10 @@ use Rattle.layout.specs.Page.{pageAt}
 use Rattle.layout.specs.Record.{bit}
 use Rattle.layout.specs.Images.{slotAt}
 use Rattle.layout.proofs.Limits.{within}
-use Rattle.rules.specs.Gather.{gathered, gatheredReads}
-use Rattle.rules.specs.Fetch.{parityAnew}
+use Rattle.rules.specs.Fetch.{gathered, parityAnew}
 use Rattle.rules.proofs.Soundness.RecordChecks.{record-sound}
 use Rattle.codec.specs.Views.{recordFrom}
-use Rattle.fetch.proofs.Others.{under-fit, current-fits, old-fits, current-there, old-there}
+use Rattle.fetch.proofs.Others.{under-fit, current-fits, old-fits}
 use Rattle.fetch.proofs.rebuild.Statement.{statement}
 use Rattle.fetch.proofs.rebuild.Tie as tie
 
@@ -56,13 +55,10 @@ returns c =
     rw (c .before .before .before .before .before .before .before .role .given .1, bit-told (c .before .before .before .before .before) ∙ c .before .before .before .before .if1 .taken) (c .before .before .through-partial .ensures)
 
 through-parity-requires : tie.Need-through-parity-requires
-unfolding recordFrom
 through-parity-requires c κs =
     let k = c .before .before .before .before in
     let s = current-start k in
-    let l = layoutOf (s .args .g) in
-    let member = record-sound l (recordFrom l (s .args .e)) (s .pre .4) .member (k .role .given .0 .0) (current k .1) in
-    (s .pre .0, s .pre .2, current k .0, s .pre .4, member .parity-under-current (current-there l (recordFrom l (s .args .e)) (k .role .given .1) (s .pre .5)) (bit-told (c .before .before) ∙ c .before .if1 .left))
+    (s .pre .0, s .pre .2, current k .0, s .pre .4)
 
 returns-2 : tie.Need-returns-2
 returns-2 c =
@@ -70,13 +66,10 @@ returns-2 c =
     rw (c .before .before .before .before .before .before .before .role .given .1, bit-told (c .before .before .before .before .before) ∙ c .before .before .before .before .if1 .left) (c .before .before .through-parity .ensures (slotAt (layoutOf (s .args .g)) (now (s .args .slots))))
 
 through-parity-requires-2 : tie.Need-through-parity-requires-2
-unfolding recordFrom
 through-parity-requires-2 c κs =
     let k = c .before .before in
     let s = old-start k in
-    let l = layoutOf (s .args .g) in
-    let member = record-sound l (recordFrom l (s .args .e)) (s .pre .4) .member (k .role2 .given .0 .0) (old k .1) in
-    (s .pre .0, s .pre .2, old k .0, s .pre .4, member .parity-under-old (old-there l (recordFrom l (s .args .e)) (k .role2 .given .1) (s .pre .5)))
+    (s .pre .0, s .pre .2, old k .0, s .pre .4)
 
 returns-3 : tie.Need-returns-3
 returns-3 c =
@@ -100,8 +93,8 @@ returns-4 c =
     let numbers = c .before .before .before .under-parity .ensures (s .args .g) in
     rw (c .before .before .before .before .before .enum-told .given .1)
     (record {
-      bytes = called .0 ∙ ap (λ f. now (s .args .work) ⊕ gathered l (pageAt l (now (s .args .chips))) (s .args .j) f) numbers;
-      reads = called .1 ∙ ap (gatheredReads l) numbers;
+      bytes = called .0 ∙ ap (λ f. now (s .args .work) ⊕ gathered l (pageAt l (now (s .args .chips))) (s .args .j) f .bytes) numbers;
+      reads = called .1 ∙ ap (λ f. gathered l (pageAt l (now (s .args .chips))) (s .args .j) f .reads) numbers;
       origin = refl;
       few = omega (arith, called .2);
     })

@@ -1,15 +1,13 @@
 -- The tests are those of the definition, and the member is the one on the chip.
-use Prim.Native.Nat.{_<_}
 use native.Mathlib.Omega.{arith}
 use mathlib.Core.Path.{_≡_, refl, sym, _∙_}
-use mathlib.Core.Logic.{⊎-elim}
 use mathlib.Core.Bool.{false}
+use lib.ListN.{getD}
 use lib.Dec.{eqb}
 use borrow.Author.Needs.{needs}
-use borrow.Author.Tests.{eq-eqb, ne-eqb, lt-ltb, le-ltb}
+use borrow.Author.Tests.{eq-eqb, ne-eqb}
 use Rattle.layout.specs.Layout.{layoutOf}
-use Rattle.layout.specs.Rotation.{parityChip, memberOn}
-use Rattle.layout.proofs.Limits.{within}
+use Rattle.layout.specs.Rotation.{parityChip}
 use Rattle.rules.specs.Names.{roleOf}
 use Rattle.codec.specs.Views.{recordFrom}
 use Rattle.fetch.proofs.Others.{current-in}
@@ -22,46 +20,38 @@ returns c =
     let a = c .before .before .args in
     (rw (eq-eqb (a .c) (parityChip (layoutOf (a .g)) (a .j)) (c .if1 .taken ∙ c .before .parity-chip .ensures .0)), tt)
 
--- the member worked out is the one on the chip, and one of the N
-member : (c : tie.Joined2)
-    → let a = c .before .before .before .args in
-    (c .if2 .m ≡ memberOn (layoutOf (a .g)) (a .j) (a .c)) × (c .if2 .m < a .g .n) × (c .if2 .m < 6)
-unfolding memberOn
-member c =
-    let s = c .before .before .before in
-    let p = c .before .before .parity-chip in
-    let high = within (layoutOf (s .args .g)) (s .pre .0) .members-high in
-    let other = c .before .if1 .left in
-    ⊎-elim
-    (λ w. (rw (← p .ensures .0, lt-ltb (s .args .c) (p .result) (w .0 .taken)) (w .1), omega arith, omega arith))
-    (λ w. (rw (← p .ensures .0, le-ltb (s .args .c) (p .result) (w .0 .left)) (w .1), omega (arith, other), omega (arith, other)))
-    (c .if2 .came)
+member-on-requires : tie.Need-member-on-requires
+member-on-requires c κs =
+    let s = c .before .before in
+    (s .pre .0, s .pre .1, λ e. c .if1 .left (e ∙ sym (c .before .parity-chip .ensures .0)))
 
 -- the chip is not the parity's
-other : (c : tie.Joined2) → let a = c .before .before .before .args in eqb (a .c) (parityChip (layoutOf (a .g)) (a .j)) ≡ false
+other : (c : tie.After-member-on) → let a = c .before .before .before .args in eqb (a .c) (parityChip (layoutOf (a .g)) (a .j)) ≡ false
 other c =
     let a = c .before .before .before .args in
-    ne-eqb (a .c) (parityChip (layoutOf (a .g)) (a .j)) (λ q. c .before .if1 .left (q ∙ sym (c .before .before .parity-chip .ensures .0)))
+    ne-eqb (a .c) (parityChip (layoutOf (a .g)) (a .j)) (λ e. c .before .if1 .left (e ∙ sym (c .before .before .parity-chip .ensures .0)))
+
+-- the member's current number
+number : (c : tie.After-member-on)
+    → let a = c .before .before .before .args in
+    recordFrom (layoutOf (a .g)) (a .t2) .current (c .member-on .result) ≡ getD (a .t2 .current) (c .member-on .result) 0
+number c = let a = c .before .before .before .args in current-in (a .g) (a .t2) (c .member-on .result) refl (c .member-on .ensures .2)
 
 returns-2 : tie.Need-returns-2
 unfolding roleOf
 returns-2 c =
-    let b = c .before .before .before in
+    let b = c .before .before in
     let a = b .before .before .before .args in
-    let l = layoutOf (a .g) in
-    let (is, low, six) = member b in
-    let number = current-in (a .g) (a .t2) (b .if2 .m) refl six in
-    (rw (other b, ← is, eq-eqb (recordFrom l (a .t2) .current (b .if2 .m)) (a .p) (number ∙ c .if3 .taken)), low)
+    let (is, low, six) = b .member-on .ensures in
+    (rw (other b, ← is, eq-eqb (recordFrom (layoutOf (a .g)) (a .t2) .current (b .member-on .result)) (a .p) (number b ∙ c .if2 .taken)), low)
 
 returns-3 : tie.Need-returns-3
 unfolding roleOf
 returns-3 c =
-    let b = c .before .before .before in
+    let b = c .before .before in
     let a = b .before .before .before .args in
-    let l = layoutOf (a .g) in
-    let (is, low, six) = member b in
-    let number = current-in (a .g) (a .t2) (b .if2 .m) refl six in
-    (rw (other b, ← is, ne-eqb (recordFrom l (a .t2) .current (b .if2 .m)) (a .p) (λ q. c .if3 .left (sym number ∙ q))), low)
+    let (is, low, six) = b .member-on .ensures in
+    (rw (other b, ← is, ne-eqb (recordFrom (layoutOf (a .g)) (a .t2) .current (b .member-on .result)) (a .p) (λ q. c .if2 .left (sym (number b) ∙ q))), low)
 
 pub role-of-spec : {M : Type 1} → statement M
 role-of-spec =
@@ -69,8 +59,8 @@ role-of-spec =
     (tie.spec
     (λ c κs. search needs)
     returns
-    (λ c. search needs)
-    (λ c. omega (arith, member (c .before) .2))
-    (λ c. member (c .before) .2)
+    member-on-requires
+    (λ c. omega (arith, c .member-on .ensures .2))
+    (λ c. c .member-on .ensures .2)
     returns-2
     returns-3)

@@ -1,6 +1,7 @@
 -- The slot is XORed in, and then the other pages of the bitmap. A record with a bit has a slot, and its numbers are those of pages.
 use native.Mathlib.Omega.{arith}
-use mathlib.Core.Path.{refl, ap, ap₂, _∙_}
+use native.Mathlib.Nat.{zero-add}
+use mathlib.Core.Path.{refl, sym, ap, ap₂, _∙_}
 use denote.Ref.{now}
 use Rattle.bytes.specs.Xor.{_⊕_}
 use borrow.Author.Needs.{needs}
@@ -8,8 +9,7 @@ use Rattle.layout.specs.Layout.{layoutOf}
 use Rattle.layout.specs.Page.{pageAt}
 use Rattle.layout.specs.Images.{slotAt}
 use Rattle.layout.proofs.Limits.{within}
-use Rattle.rules.specs.Gather.{gathered, gatheredReads}
-use Rattle.rules.specs.Fetch.{othersInside, throughPartial}
+use Rattle.rules.specs.Fetch.{gathered, othersInside, throughPartial}
 use Rattle.rules.proofs.Soundness.RecordChecks.{record-sound}
 use Rattle.codec.specs.Views.{recordFrom}
 use Rattle.fetch.proofs.Pages.{as-long, into-two}
@@ -50,11 +50,11 @@ returns c =
     let b = c .before .before .before in
     let a = start b .args in
     let l = layoutOf (a .g) in
-    into-two (slotAt l (now (a .slots)) (a .e .slot)) (gathered l (pageAt l (now (a .chips))) (a .j) (othersInside l (a .m) (recordFrom l (a .e)))) refl
+    into-two (slotAt l (now (a .slots)) (a .e .slot)) (gathered l (pageAt l (now (a .chips))) (a .j) (othersInside l (a .m) (recordFrom l (a .e))) .bytes) refl
     (called .0
     ∙ ap₂ _⊕_ (b .before .before .before .before .xor-into .ensures ∙ ap (λ x. now (a .work) ⊕ x) (slot b .slot-data .ensures .0))
-    (ap (gathered l (pageAt l (now (a .chips))) (a .j)) (b .others-inside .ensures (a .g))))
-    (called .1 ∙ ap (gatheredReads l) (b .others-inside .ensures (a .g))) refl (omega (arith, called .2))
+    (ap (λ f. gathered l (pageAt l (now (a .chips))) (a .j) f .bytes) (b .others-inside .ensures (a .g))))
+    (called .1 ∙ ap (λ f. gathered l (pageAt l (now (a .chips))) (a .j) f .reads) (b .others-inside .ensures (a .g)) ∙ sym (zero-add _)) refl (omega (arith, called .2))
 
 pub through-partial-spec : {M : Type 1} → statement M
 through-partial-spec =

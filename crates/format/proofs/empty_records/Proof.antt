@@ -19,5 +19,4 @@ returns c cs zs =
     (rw (c .before .before .before .put-empty-records .ensures, c .before .before .before .before .before .held .ensures, empties-made l)))
 
 pub empty-records-spec : {M : Type 1} → statement M
-empty-records-spec =
-    tie.close (tie.spec (λ c κs. search needs) (λ c κs. search needs) (λ c κs. search needs) (λ c. search needs) returns)
+empty-records-spec = tie.close (tie.spec (λ c κs. search needs) (λ c κs. search needs) (λ c κs. search needs) (λ c. search needs) returns)

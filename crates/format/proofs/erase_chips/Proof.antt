@@ -30,5 +30,5 @@ returns c rs zs =
 pub erase-chips-spec : {M : Type 1} → statement M
 erase-chips-spec =
     tie.close
-    (tie.spec (λ c. omega (arith, limits (c .before .before) .members-high)) (λ c. omega (arith, few (c .before .before .before))) (λ c κs. search needs) (λ c κs. search needs) (λ c κs. search needs)
-    (λ c. search needs) returns)
+    (tie.spec (λ c. omega (arith, limits (c .before .before) .members-high)) (λ c. omega (arith, few (c .before .before .before)))
+    (λ c κs. search needs) (λ c κs. search needs) (λ c κs. search needs) (λ c. search needs) returns)

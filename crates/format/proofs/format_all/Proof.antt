@@ -11,15 +11,9 @@ use Rattle.steps.proofs.Allowances.{ran-append}
 use Rattle.format.proofs.format_all.Statement.{statement}
 use Rattle.format.proofs.format_all.Tie as tie
 
-empty-records-requires : tie.Need-empty-records-requires
-empty-records-requires c κs = (c .before .before .before .before .before .before .before .pre .1, c .before .before .before .erase-chips .ensures [] [] .sane)
-
 store-collection-requires : tie.Need-store-collection-requires
 store-collection-requires c κs =
     (record { limited = c .before .before .before .before .before .before .before .before .before .before .before .pre .1 .limited; long = c .before .before .before .empty-records .kept .0 ∙ c .before .before .before .before .before .before .before .before .before .before .before .pre .1 .long }, omega arith, omega arith, c .before .before .before .empty-records .ensures [] [] .sane)
-
-same-length-2 : tie.Need-same-length-2
-same-length-2 c = c .before .before .store-collection .kept .0 ∙ c .before .before .before .before .before .before .empty-records .kept .0
 
 returns : tie.Need-returns
 unfolding formatSteps
@@ -36,6 +30,7 @@ returns c =
 pub format-all-spec : {M : Type 1} → statement M
 format-all-spec =
     tie.close
-    (tie.spec
-    (λ c κs. search needs) empty-records-requires store-collection-requires (λ c. search needs)
-    same-length-2 returns)
+    (tie.spec (λ c κs. search needs)
+    (λ c κs. (c .before .before .before .before .before .before .before .pre .1, c .before .before .before .erase-chips .ensures [] [] .sane))
+    store-collection-requires (λ c. search needs)
+    (λ c. c .before .before .store-collection .kept .0 ∙ c .before .before .before .before .before .before .empty-records .kept .0) returns)

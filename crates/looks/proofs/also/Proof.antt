@@ -7,4 +7,5 @@ returns-3 : tie.Need-returns-3
 returns-3 c = rw (c .before .above .given .1)
 
 pub also-spec : {M : Type 1} → statement M
-also-spec = tie.close (tie.spec (λ c. search needs) (λ c. search needs) (λ c. search needs) (λ c. rw (c .before .enum-told .given .1, c .if1 .left)) returns-3)
+also-spec = tie.close
+    (tie.spec (λ c. search needs) (λ c. search needs) (λ c. search needs) (λ c. rw (c .before .enum-told .given .1, c .if1 .left)) returns-3)

@@ -1,5 +1,5 @@
 -- Rows 1 and 2 come from `buffers_check`; each return after that settles one test more.
-use mathlib.Core.Path.{_≡_, refl, sym, ap, _∙_}
+use mathlib.Core.Path.{refl, sym, ap, _∙_}
 use mathlib.Core.Bool.{true, false}
 use borrow.Author.Needs.{needs}
 use borrow.Author.Tests.{not-true, not-false}
@@ -15,9 +15,6 @@ returns c =
 returns-2 : tie.Need-returns-2
 returns-2 c =
     look-refused _ _ _ (c .refused2 .ensures) (images-next _ _ _ false _ _ (sym (c .before .before .before .before .buffers-check .ensures) ∙ c .before .before .enum-told .given .1) (not-true _ (c .before .if1 .taken)) refl refl)
-
-scan-records-requires : tie.Need-scan-records-requires
-scan-records-requires c κs = buffers-fit _ _ (sym (c .before .before .before .buffers-check .ensures) ∙ c .before .enum-told .given .1) .records
 
 returns-3 : tie.Need-returns-3
 returns-3 c =
@@ -47,19 +44,6 @@ returns-5 c =
 pub images-look-spec : {M : Type 1} → statement M
 images-look-spec =
     tie.close
-    (tie.spec
-    (λ c κs. search needs)
-    (λ c. search needs)
-    (λ c κs. search needs)
-    returns
-    (λ c. search needs)
-    (λ c κs. search needs)
-    returns-2
-    scan-records-requires
-    (λ c κs. search needs)
-    returns-3
-    collection-at-requires
-    scan-spares-requires
-    (λ c κs. search needs)
-    returns-4
-    returns-5)
+    (tie.spec (λ c κs. search needs) (λ c. search needs) (λ c κs. search needs) returns (λ c. search needs) (λ c κs. search needs) returns-2
+    (λ c κs. buffers-fit _ _ (sym (c .before .before .before .buffers-check .ensures) ∙ c .before .enum-told .given .1) .records)
+    (λ c κs. search needs) returns-3 collection-at-requires scan-spares-requires (λ c κs. search needs) returns-4 returns-5)

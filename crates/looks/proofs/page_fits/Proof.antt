@@ -8,11 +8,10 @@ use Rattle.looks.proofs.Passing.{page-test}
 use Rattle.looks.proofs.page_fits.Statement.{statement}
 use Rattle.looks.proofs.page_fits.Tie as tie
 
-returns : tie.Need-returns
-returns c = let a = c .before .before .args in rw (c .if1 .taken) (sym (le-ltb (a .page) (0 * a .g .s) (omega arith)))
-
 returns-2 : tie.Need-returns-2
 returns-2 c = let a = c .before .before .before .before .args in page-test (a .g .n) (a .g .s) (a .page) (omega arith)
 
 pub page-fits-spec : {M : Type 1} → statement M
-page-fits-spec = tie.close (tie.spec returns (λ c. search needs) returns-2)
+page-fits-spec = tie.close
+    (tie.spec (λ c. let a = c .before .before .args in rw (c .if1 .taken) (sym (le-ltb (a .page) (0 * a .g .s) (omega arith))))
+    (λ c. search needs) returns-2)

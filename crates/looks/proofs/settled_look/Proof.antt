@@ -11,9 +11,6 @@ returns : tie.Need-returns
 returns c =
     look-refused _ _ _ (c .refused .ensures) (settled-first _ _ _ (c .before .before .first .given .0 .0) (sym (look-check _ _ _ _ (c .before .before .before .before .images-look .ensures)) ∙ c .before .before .first .given .1))
 
-collection-at-requires : tie.Need-collection-at-requires
-collection-at-requires c κs = images-fit _ _ _ (sym (look-check _ _ _ _ (c .before .before .images-look .ensures)) ∙ c .enum-told .given .1) .fit .records
-
 returns-2 : tie.Need-returns-2
 returns-2 c =
     look-refused _ _ _ (c .refused2 .ensures)
@@ -30,13 +27,6 @@ returns-3 c =
 pub settled-look-spec : {M : Type 1} → statement M
 settled-look-spec =
     tie.close
-    (tie.spec
-    (λ c κs. search needs)
-    (λ c. search needs)
-    (λ c κs. search needs)
-    returns
-    (λ c. search needs)
-    collection-at-requires
-    (λ c κs. search needs)
-    returns-2
-    returns-3)
+    (tie.spec (λ c κs. search needs) (λ c. search needs) (λ c κs. search needs) returns (λ c. search needs)
+    (λ c κs. images-fit _ _ _ (sym (look-check _ _ _ _ (c .before .before .images-look .ensures)) ∙ c .enum-told .given .1) .fit .records)
+    (λ c κs. search needs) returns-2 returns-3)

@@ -1,9 +1,8 @@
--- The new partial parity comes back as the front of the work page; then the two stores, one after the other.
-use Prim.Native.Nat.{ℕ, _-_, _≤_}
+-- The work page becomes the new partial parity; then the two stores, one after the other.
+use Prim.Native.Nat.{_≤_}
 use native.Mathlib.Omega.{arith}
-use mathlib.Core.Path.{_≡_, refl, sym, ap, _∙_}
-use mathlib.Core.List.{[], _++_}
-use lib.ListN.{length, take, drop, replicate}
+use mathlib.Core.Path.{_≡_, sym, _∙_}
+use mathlib.Core.List.{[]}
 use denote.Ref.{now}
 use borrow.Author.Needs.{needs}
 use Rattle.ranges.specs.declared.Found.the-variants.{At}
@@ -13,7 +12,6 @@ use Rattle.layout.proofs.Limits.{within}
 use Rattle.steps.specs.Allowance.{images}
 use Rattle.steps.proofs.Allowances.{ran-none, ran-append}
 use Rattle.rules.specs.Partial.{lowestFreeSlot}
-use Rattle.bytes.proofs.Work.{front-long, front-back}
 use Rattle.fetch.proofs.Others.{record-is}
 use Rattle.partial.proofs.Slots.{free-fits}
 use Rattle.partial.proofs.Steps.{steps-none, steps-found}
@@ -31,13 +29,13 @@ abbrev slot : tie.After-record-at → tie.After-free
 slot c = c .before .before .before
 
 abbrev start : tie.After-free → tie.Start
-start c = c .before .before .before .before .before .before
+start c = c .before .before .before .before .before .before .before
 
 -- the slot that is found is the lowest free one
 found : (c : tie.After-free)
     → let a = start c .args in
     lowestFreeSlot (layoutOf (a .g)) (recordAt (layoutOf (a .g)) (now (a .records))) ≡ At (c .free .given .0 .0)
-found c = sym (start c .pre .9) ∙ c .free .given .1
+found c = sym (start c .pre .10) ∙ c .free .given .1
 
 -- and one of the M + 1
 fits : (c : tie.After-free) → c .free .given .0 .0 ≤ start c .args .g .m
@@ -45,30 +43,17 @@ fits c =
     let a = start c .args in
     free-fits (a .g) (recordAt (layoutOf (a .g)) (now (a .records))) (c .free .given .0 .0) (found c)
 
--- the page fits into the work page
-narrow : (s : tie.Start) → s .args .g .w ≤ 4096
-narrow s = within (layoutOf (s .args .g)) (s .pre .0 .limited) .bytes-high
-
 new-partial-requires : tie.Need-new-partial-requires
 new-partial-requires c κs =
     let s = start (slot (c .before .before)) in
-    (s .pre .0, s .pre .2, front-long (s .args .g .w) 4096 (narrow s), s .pre .5, s .pre .4, rw (record-is (s .args .g) (now (s .args .records)) (s .args .j) (c .before .before .record-at .ensures) (s .pre .7)) (s .pre .7))
-
--- and comes back as its front
-back : (c : tie.After-new-partial)
-    → let w = start (slot (entry c)) .args .g .w in
-    let work = c .new-partial .last .0 ++ drop (w - 0) (replicate 4096 0) in
-    (w ≤ length work) × (take (w - 0) work ≡ c .new-partial .last .0)
-back c =
-    let s = start (slot (entry c)) in
-    front-back (s .args .g .w) 4096 (narrow s) (c .new-partial .kept .0) refl
+    (s .pre .0, s .pre .2, s .pre .3, s .pre .6, s .pre .5, rw (record-is (s .args .g) (now (s .args .records)) (s .args .j) (c .before .before .record-at .ensures) (s .pre .8)) (s .pre .8))
 
 store-slot-requires : tie.Need-store-slot-requires
 store-slot-requires c κs =
     let n = c .before .before .before .before in
     let i = slot (entry n) in
     let s = start i in
-    (s .pre .2, fits i, ap (length {A = ℕ}) (back n .1) ∙ n .new-partial .kept .0 ∙ front-long (s .args .g .w) 4096 (narrow s), n .new-partial .ensures .2, s .pre .8)
+    (s .pre .2, fits i, n .new-partial .kept .0 ∙ s .pre .3, n .new-partial .ensures .2, s .pre .9)
 
 written-requires : tie.Need-written-requires
 unfolding none
@@ -78,8 +63,8 @@ written-requires c κs =
     let s = start i in
     let w = within (layoutOf (s .args .g)) (s .pre .0 .limited) in (
       e .record-at .ensures .1,
-      omega (arith, s .pre .4, w .members-high),
-      omega (arith, s .pre .6, w .pages-numbered),
+      omega (arith, s .pre .5, w .members-high),
+      omega (arith, s .pre .7, w .pages-numbered),
       omega (arith, fits i, w .partials-high),
     )
 
@@ -87,7 +72,7 @@ store-record-requires : tie.Need-store-record-requires
 store-record-requires c κs =
     let f = c .before .before .before .before in
     let s = start (slot (entry (partial f))) in
-    (s .pre .1, s .pre .3, c .written .ensures .1, f .store-slot .ensures [] [] .sane)
+    (s .pre .1, s .pre .4, c .written .ensures .1, f .store-slot .ensures [] [] .sane)
 
 returns : tie.Need-returns
 returns c =
@@ -102,17 +87,17 @@ returns c =
     let y = now (a .slots) in
     let z = f .store-slot .last .0 in
     let last = c .before .before .store-record in
-    rw (steps-found (a .g) (a .j) (a .m) (now (a .bytes)) (a .q) x r y (e .record-at .result) (record-is (a .g) r (a .j) (e .record-at .ensures) (start i .pre .7)) (i .free .given .0 .0) (found i)
-    (back n .1 ∙ n .new-partial .ensures .0) (n .new-partial .ensures .1) (c .before .before .before .written .ensures .0 (a .g)))
+    rw (steps-found (a .g) (a .j) (a .m) (now (a .bytes)) (a .q) x r y (e .record-at .result) (record-is (a .g) r (a .j) (e .record-at .ensures) (start i .pre .8)) (i .free .given .0 .0) (found i)
+    (n .new-partial .ensures .0) (n .new-partial .ensures .1) (c .before .before .before .written .ensures .0 (a .g)))
     (ran-append l (a .p) (f .store-slot .result) (last .result) _ _ (images x r y) (images x r z) _ (f .store-slot .ensures x r) (last .ensures x z))
 
 returns-2 : tie.Need-returns-2
 returns-2 c =
-    let s = c .before .before .before .before .before .before in
+    let s = c .before .before .before .before .before .before .before in
     let a = s .args in
     let l = layoutOf (a .g) in
     let v = images (now (a .chips)) (now (a .records)) (now (a .slots)) in
-    rw (steps-none (a .g) (a .j) (a .m) (now (a .bytes)) (a .q) (now (a .chips)) (now (a .records)) (now (a .slots)) (sym (s .pre .9) ∙ c .enum-told .given .1)) (ran-none l (a .p) v (s .pre .8))
+    rw (steps-none (a .g) (a .j) (a .m) (now (a .bytes)) (a .q) (now (a .chips)) (now (a .records)) (now (a .slots)) (sym (s .pre .10) ∙ c .enum-told .given .1)) (ran-none l (a .p) v (s .pre .9))
 
 pub store-partial-spec : {M : Type 1} → statement M
 store-partial-spec =
@@ -120,16 +105,11 @@ store-partial-spec =
     (tie.spec
     (λ c. search needs)
     (λ c κs. search needs)
-    (λ c. search needs)
-    (λ c. search needs)
-    (λ c. narrow (start (slot c)))
     new-partial-requires
-    (λ c. search needs)
-    (λ c. search needs)
-    (λ c. back (c .before .before .before) .0)
     store-slot-requires
     written-requires
     store-record-requires
+    (λ c. search needs)
     (λ c. search needs)
     (λ c. search needs)
     (λ c. search needs)

@@ -1,6 +1,5 @@
 -- Each return is one case of the least with one number more.
 use mathlib.Core.Path.{sym, _∙_}
-use borrow.Author.Needs.{needs}
 use borrow.Author.Tests.{not-true, not-false}
 use Rattle.ranges.proofs.Leasts.{least-passed, least-stays, least-taken}
 use Rattle.ranges.proofs.with_next.Statement.{statement}

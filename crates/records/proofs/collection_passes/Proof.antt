@@ -23,5 +23,4 @@ returns-2 c =
     rw (ends, same .phase, same .chip, same .victim, same .destination, ne-eqb _ 0 (λ q. told .if1 .left (same .phase ∙ q)))
 
 pub collection-passes-spec : {M : Type 1} → statement M
-collection-passes-spec =
-    tie.close (tie.spec (λ c κs. search needs) (λ c κs. search needs) returns returns-2)
+collection-passes-spec = tie.close (tie.spec (λ c κs. search needs) (λ c κs. search needs) returns returns-2)

@@ -38,13 +38,5 @@ returns-2 c =
 pub lowest-unmarked-spec : {M : Type 1} → statement M
 lowest-unmarked-spec =
     tie.close
-    (tie.spec
-    Inv-loop
-    μ-loop
-    (λ c. (omega arith, first-start (unmarked (c .args .marks .now))))
-    (λ c. search needs)
-    returns
-    (λ c. omega arith)
-    (λ c. omega arith)
-    loop-again
-    returns-2)
+    (tie.spec Inv-loop μ-loop (λ c. (omega arith, first-start (unmarked (c .args .marks .now)))) (λ c. search needs) returns (λ c. omega arith)
+    (λ c. omega arith) loop-again returns-2)

@@ -19,11 +19,5 @@ returns c =
 pub member-passes-spec : {M : Type 1} → statement M
 member-passes-spec =
     tie.close
-    (tie.spec
-    (λ c. omega (arith, bounded (c .before .args .g) (c .before .pre .0)))
-    (λ c. search needs)
-    (λ c. search needs)
-    (λ c. search needs)
-    (λ c. search needs)
-    (λ c κs. search needs)
-    returns)
+    (tie.spec (λ c. omega (arith, bounded (c .before .args .g) (c .before .pre .0))) (λ c. search needs) (λ c. search needs) (λ c. search needs)
+    (λ c. search needs) (λ c κs. search needs) returns)

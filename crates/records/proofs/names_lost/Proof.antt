@@ -2,7 +2,6 @@
 use Prim.Native.Nat.{_+_}
 use native.Mathlib.Omega.{arith}
 use mathlib.Core.Path.{refl, sym}
-use borrow.Author.Needs.{needs}
 use borrow.Author.Tests.{le-leb, lt-leb, eqb-true}
 use lib.Dec.{eqb}
 use Rattle.ranges.proofs.Tests.{and-both}
@@ -17,9 +16,6 @@ use Rattle.records.proofs.names_lost.Tie as tie
 returns : tie.Need-returns
 unfolding namesLost
 returns c = let a = c .before .before .args in (rw (lt-leb (a .lost) (a .g .n) (c .if1 .taken)), omega arith)
-
-add-if2 : tie.Need-add-if2
-add-if2 c = let s = c .before .before in omega (arith, within (layoutOf (s .args .g)) (s .pre .0 .limited) .members-high)
 
 returns-2 : tie.Need-returns-2
 unfolding namesLost
@@ -39,4 +35,6 @@ returns-3 c =
     (rw (le-leb (a .lost) (a .g .n) (c .before .before .before .before .if1 .left)) (c .names-on .ensures .0), c .names-on .ensures .1)
 
 pub names-lost-spec : {M : Type 1} → statement M
-names-lost-spec = tie.close (tie.spec returns add-if2 returns-2 (λ c κs. let h = c .before .before .before .before .before .pre in (h .0, c .before .before .before .if1 .left, h .1)) returns-3)
+names-lost-spec = tie.close
+    (tie.spec returns (λ c. let s = c .before .before in omega (arith, within (layoutOf (s .args .g)) (s .pre .0 .limited) .members-high))
+    returns-2 (λ c κs. let h = c .before .before .before .before .before .pre in (h .0, c .before .before .before .if1 .left, h .1)) returns-3)

@@ -55,14 +55,5 @@ returns c =
 pub record-passes-spec : {M : Type 1} → statement M
 record-passes-spec =
     tie.close
-    (tie.spec
-    Inv-loop
-    μ-loop
-    (λ c. omega (arith, bounded (c .before .args .g) (c .before .pre)))
-    loop-holds
-    (λ c κs. search needs)
-    (λ c. search needs)
-    (λ c. search needs)
-    loop-again
-    shl-result
-    returns)
+    (tie.spec Inv-loop μ-loop (λ c. omega (arith, bounded (c .before .args .g) (c .before .pre))) loop-holds (λ c κs. search needs)
+    (λ c. search needs) (λ c. search needs) loop-again shl-result returns)

@@ -63,41 +63,21 @@ loop-again c =
 
 returns : tie.Need-returns Inv-loop μ-loop
 returns c =
-    let o = c .before .before .before .before .before .before .before .before in
+    let o = c .before .before .before .before .before .before in
     let a = start o .args in
     let limited = start o .pre .limited in
     let p = o .loop .inv .1 in
     let all : o .loop .j ≡ a .g .s = omega arith in (
-      rw (c .before .before .before .before .collection-passes .ensures) (passed-all limited p all (collectionAt (layoutOf (a .g)) (a .records .now))),
+      rw (c .before .before .collection-passes .ensures) (passed-all limited p all (collectionAt (layoutOf (a .g)) (a .records .now))),
       passed-names limited p all,
-      rw (c .lowest-unmarked .ensures, c .before .before .found-in .ensures) (passed-slots limited p all (limits o .partials-high)),
+      rw (c .slots-told .ensures) (passed-slots limited p all (limits o .partials-high)),
     )
 
 pub scan-records-spec : {M : Type 1} → statement M
 scan-records-spec =
     tie.close
-    (tie.spec
-    Inv-loop
-    μ-loop
-    (λ c κs. search needs)
-    (λ c κs. search needs)
-    loop-holds
-    (λ c κs. search needs)
-    (λ c κs. search needs)
-    add-gone
-    add-names
-    (λ c κs. search needs)
-    (λ c κs. search needs)
-    (λ c. search needs)
-    with-record-requires
-    (λ c. search needs)
-    (λ c κs. search needs)
-    add-names-2
-    (λ c. omega arith)
-    (λ c. omega arith)
-    loop-again
-    (λ c κs. search needs)
-    (λ c κs. search needs)
-    (λ c κs. limits (c .before .before .before .before .before .before .before) .partials-high)
-    (λ c. c .before .before .before .before .before .before .before .before .loop .inv .1 .less)
-    returns)
+    (tie.spec Inv-loop μ-loop (λ c κs. search needs) (λ c κs. search needs) loop-holds (λ c κs. search needs) (λ c κs. search needs) add-gone
+    add-names (λ c κs. search needs) (λ c κs. search needs) (λ c. search needs) with-record-requires (λ c. search needs) (λ c κs. search needs)
+    add-names-2 (λ c. omega arith) (λ c. omega arith) loop-again (λ c κs. search needs)
+    (λ c κs. limits (c .before .before .before .before .before) .partials-high)
+    (λ c. c .before .before .before .before .before .before .loop .inv .1 .less) returns)

@@ -16,13 +16,12 @@ use Rattle.layout.proofs.Limits.{Within}
 use Rattle.layout.proofs.Rotations.{parity-chip-fits, member-chip-fits, stripe-fits, page-chip-fits}
 use Rattle.layout.proofs.Records.{same-bit, same-slotted}
 use Rattle.rules.specs.Names.{mainNumber, sideNumber}
-use Rattle.rules.specs.Gather.{bytesAt}
-use Rattle.rules.specs.Fetch.{Fetched, underParity}
+use Rattle.rules.specs.Fetch.{Fetched, itself, underParity}
 use Rattle.rules.specs.Read.{fetch}
 use Rattle.rules.proofs.Soundness.Statements.{Usable, Sound}
 use Rattle.rules.proofs.Stores.Names.{main-member, side-member, main-parity}
 use Rattle.rules.proofs.Stores.Kept.{CopiesOf, Same, Kept}
-use Rattle.rules.proofs.Data.Contents.{currentInside, StripeData, Data, bytes-none, bytes-page, gathered-cong}
+use Rattle.rules.proofs.Data.Contents.{currentInside, StripeData, Data, bytes-none, gathered-cong}
 use Rattle.rules.proofs.Data.Rebuild.{fetch-unwritten, fetch-direct}
 use Rattle.rules.proofs.Data.Feeds.{currentOutside, oldInside, parityBytes}
 
@@ -67,14 +66,14 @@ module _ (l : Layout) where
 
   -- A stripe whose numbers name the same bytes as before: its groups.
   module _ (y y′ : ℕ → ℕ → Page) (j : ℕ) (r r′ : Record) (bits : r′ .bitmap ≡ r .bitmap)
-      (main : (c : ℕ) → c < N + 1 → bytesAt l y′ c (mainNumber l c j r′) ≡ bytesAt l y c (mainNumber l c j r))
-      (side : (c : ℕ) → c < N + 1 → bytesAt l y′ c (sideNumber l c j r′) ≡ bytesAt l y c (sideNumber l c j r)) where
-    parity-kept : bytesAt l y′ (parityChip l j) (r′ .parity) ≡ bytesAt l y (parityChip l j) (r .parity)
+      (main : (c : ℕ) → c < N + 1 → itself l y′ c (mainNumber l c j r′) .bytes ≡ itself l y c (mainNumber l c j r) .bytes)
+      (side : (c : ℕ) → c < N + 1 → itself l y′ c (sideNumber l c j r′) .bytes ≡ itself l y c (sideNumber l c j r) .bytes) where
+    parity-kept : itself l y′ (parityChip l j) (r′ .parity) .bytes ≡ itself l y (parityChip l j) (r .parity) .bytes
     parity-kept = rw (main-parity l j r′, main-parity l j r) at (main (parityChip l j) (parity-chip-fits l j))
 
     module _ (m : ℕ) (h : m < N) where
       abbrev SameBytes : ℕ → ℕ → Type 0
-      SameBytes p p′ = bytesAt l y′ (memberChip l j m) p′ ≡ bytesAt l y (memberChip l j m) p
+      SameBytes p p′ = itself l y′ (memberChip l j m) p′ .bytes ≡ itself l y (memberChip l j m) p .bytes
 
       current-kept : SameBytes (r .current m) (r′ .current m)
       current-kept = rw (main-member l j m r′, main-member l j m r) at (main (memberChip l j m) (member-chip-fits l j m h))
@@ -115,8 +114,8 @@ module _ (l : Layout) where
 
   -- the parity that a commit works out of the same bytes
   pub new-parity-kept : (y y′ : ℕ → ℕ → Page) (j : ℕ) (r : Record)
-      → ((c : ℕ) → c < N + 1 → bytesAt l y′ c (mainNumber l c j r) ≡ bytesAt l y c (mainNumber l c j r))
-      → ((c : ℕ) → c < N + 1 → bytesAt l y′ c (sideNumber l c j r) ≡ bytesAt l y c (sideNumber l c j r))
+      → ((c : ℕ) → c < N + 1 → itself l y′ c (mainNumber l c j r) .bytes ≡ itself l y c (mainNumber l c j r) .bytes)
+      → ((c : ℕ) → c < N + 1 → itself l y′ c (sideNumber l c j r) .bytes ≡ itself l y c (sideNumber l c j r) .bytes)
       → (z z′ : ℕ → List ℕ) → z′ (r .slot) ≡ z (r .slot) → parityBytes l y′ z′ j r ≡ parityBytes l y z j r
   unfolding parityBytes
   new-parity-kept y y′ j r main side z z′ memory =

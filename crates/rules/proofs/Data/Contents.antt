@@ -24,8 +24,7 @@ use Rattle.layout.proofs.Limits.{Within}
 use Rattle.layout.proofs.Bits.{bit-test, nonzero-has-bit}
 use Rattle.layout.proofs.Rotations.{member-chip-fits}
 use Rattle.layout.proofs.Records.{bits-of-none}
-use Rattle.rules.specs.Gather.{bytesAt, memberBytes, gathered}
-use Rattle.rules.specs.Fetch.{underParity}
+use Rattle.rules.specs.Fetch.{itself, membersFeed, gathered, underParity}
 use Rattle.rules.proofs.Soundness.Statements.{Numbered, RecordSound}
 
 module _ (l : Layout) where
@@ -37,8 +36,8 @@ module _ (l : Layout) where
 
   -- stripe j with its record r, where y gives the pages of each chip and z the slots
   pub record StripeData (y : ℕ → ℕ → Page) (z : ℕ → List ℕ) (j : ℕ) (r : Record) : Type 0 where
-    pub partial : hasSlot r ≡ true → z (r .slot) ≡ gathered l y j (currentInside r)
-    pub parity : bytesAt l y (parityChip l j) (r .parity) ≡ gathered l y j (underParity l r)
+    pub partial : hasSlot r ≡ true → z (r .slot) ≡ gathered l y j (currentInside r) .bytes
+    pub parity : itself l y (parityChip l j) (r .parity) .bytes ≡ gathered l y j (underParity l r) .bytes
 
   -- every page holds W bytes
   abbrev pub Whole : (ℕ → ℕ → Page) → Type 0
@@ -50,15 +49,15 @@ module _ (l : Layout) where
 
   -- ---- one page
 
-  pub bytes-none : (y : ℕ → ℕ → Page) (c : ℕ) → bytesAt l y c (none l) ≡ []
-  unfolding bytesAt
+  pub bytes-none : (y : ℕ → ℕ → Page) (c : ℕ) → itself l y c (none l) .bytes ≡ []
+  unfolding itself
   bytes-none y c = rw (eq-eqb (none l) (none l) refl)
 
-  pub bytes-page : (y : ℕ → ℕ → Page) (c p : ℕ) → p ≢ none l → bytesAt l y c p ≡ y c p .bytes
-  unfolding bytesAt
+  pub bytes-page : (y : ℕ → ℕ → Page) (c p : ℕ) → p ≢ none l → itself l y c p .bytes ≡ y c p .bytes
+  unfolding itself
   bytes-page y c p d = rw (ne-eqb p (none l) d)
 
-  bytes-at-none : (y : ℕ → ℕ → Page) (c p : ℕ) → p ≡ none l → bytesAt l y c p ≡ []
+  bytes-at-none : (y : ℕ → ℕ → Page) (c p : ℕ) → p ≡ none l → itself l y c p .bytes ≡ []
   bytes-at-none y c p e = rw e (bytes-none y c)
 
   -- a number that is none or a page: one of two, or none
@@ -70,10 +69,10 @@ module _ (l : Layout) where
   numbered-cond false p q h k = k
 
   module _ (y : ℕ → ℕ → Page) (whole : Whole y) where
-    pub length-bytes : (c p : ℕ) → c < N + 1 → Numbered l p → p ≢ none l → length (bytesAt l y c p) ≡ W
+    pub length-bytes : (c p : ℕ) → c < N + 1 → Numbered l p → p ≢ none l → length (itself l y c p .bytes) ≡ W
     length-bytes c p chip h d = ap length (bytes-page y c p d) ∙ whole c p chip (h d)
 
-    pub length-bytes-most : (c p : ℕ) → c < N + 1 → Numbered l p → length (bytesAt l y c p) ≤ W
+    pub length-bytes-most : (c p : ℕ) → c < N + 1 → Numbered l p → length (itself l y c p .bytes) ≤ W
     length-bytes-most c p chip h = elim (ℕ-discrete p (none l)) [
       | yes e ↦ omega (arith, ap length (bytes-at-none y c p e))
       | no d ↦ omega (arith, length-bytes c p chip h d)
@@ -81,51 +80,55 @@ module _ (l : Layout) where
 
   -- ---- the pages of a stripe
 
+  -- the data of page f m of member m of stripe j
+  abbrev pub memberBytes : (ℕ → ℕ → Page) → ℕ → (ℕ → ℕ) → ℕ → List ℕ
+  memberBytes y j f m = itself l y (memberChip l j m) (f m) .bytes
+
   -- the same bytes
   pub gathered-cong : (y y′ : ℕ → ℕ → Page) (j : ℕ) (f f′ : ℕ → ℕ)
-      → ((m : ℕ) → m < N → bytesAt l y′ (memberChip l j m) (f′ m) ≡ bytesAt l y (memberChip l j m) (f m))
-      → gathered l y′ j f′ ≡ gathered l y j f
-  unfolding gathered
-  gathered-cong y y′ j f f′ h = xor-below-cong N (memberBytes l y′ j f′) (memberBytes l y j f) h
+      → ((m : ℕ) → m < N → itself l y′ (memberChip l j m) (f′ m) .bytes ≡ itself l y (memberChip l j m) (f m) .bytes)
+      → gathered l y′ j f′ .bytes ≡ gathered l y j f .bytes
+  unfolding gathered membersFeed
+  gathered-cong y y′ j f f′ h = xor-below-cong N (memberBytes y′ j f′) (memberBytes y j f) h
 
   module _ (y : ℕ → ℕ → Page) (j : ℕ) where
     -- the same numbers
-    pub gathered-same : (f f′ : ℕ → ℕ) → ((m : ℕ) → m < N → f′ m ≡ f m) → gathered l y j f′ ≡ gathered l y j f
-    gathered-same f f′ h = gathered-cong y y j f f′ (λ m b. ap (bytesAt l y (memberChip l j m)) (h m b))
+    pub gathered-same : (f f′ : ℕ → ℕ) → ((m : ℕ) → m < N → f′ m ≡ f m) → gathered l y j f′ .bytes ≡ gathered l y j f .bytes
+    gathered-same f f′ h = gathered-cong y y j f f′ (λ m b. ap (λ p. itself l y (memberChip l j m) p .bytes) (h m b))
 
-    pub gathered-none : (f : ℕ → ℕ) → ((m : ℕ) → m < N → f m ≡ none l) → gathered l y j f ≡ []
-    unfolding gathered
-    gathered-none f h = xor-below-nil N (memberBytes l y j f) (λ m b. bytes-at-none y (memberChip l j m) (f m) (h m b))
+    pub gathered-none : (f : ℕ → ℕ) → ((m : ℕ) → m < N → f m ≡ none l) → gathered l y j f .bytes ≡ []
+    unfolding gathered membersFeed
+    gathered-none f h = xor-below-nil N (memberBytes y j f) (λ m b. bytes-at-none y (memberChip l j m) (f m) (h m b))
 
     -- g has the page of member m more than f
     pub gathered-one : (f g : ℕ → ℕ) (m : ℕ) → m < N → f m ≡ none l → ((k : ℕ) → k < N → k ≢ m → f k ≡ g k)
-        → gathered l y j g ≡ gathered l y j f ⊕ bytesAt l y (memberChip l j m) (g m)
-    unfolding gathered
+        → gathered l y j g .bytes ≡ gathered l y j f .bytes ⊕ itself l y (memberChip l j m) (g m) .bytes
+    unfolding gathered membersFeed
     gathered-one f g m h e same =
-        xor-below-one N m (memberBytes l y j f) (memberBytes l y j g) h (bytes-at-none y (memberChip l j m) (f m) e)
-        (λ k b d. ap (bytesAt l y (memberChip l j k)) (same k b d))
+        xor-below-one N m (memberBytes y j f) (memberBytes y j g) h (bytes-at-none y (memberChip l j m) (f m) e)
+        (λ k b d. ap (λ p. itself l y (memberChip l j k) p .bytes) (same k b d))
 
     -- the pages of h, some in f and the others in g
     pub gathered-split : (f g h : ℕ → ℕ)
-        → ((m : ℕ) → m < N → bytesAt l y (memberChip l j m) (f m) ⊕ bytesAt l y (memberChip l j m) (g m) ≡ bytesAt l y (memberChip l j m) (h m))
-        → gathered l y j f ⊕ gathered l y j g ≡ gathered l y j h
-    unfolding gathered
+        → ((m : ℕ) → m < N → itself l y (memberChip l j m) (f m) .bytes ⊕ itself l y (memberChip l j m) (g m) .bytes ≡ itself l y (memberChip l j m) (h m) .bytes)
+        → gathered l y j f .bytes ⊕ gathered l y j g .bytes ≡ gathered l y j h .bytes
+    unfolding gathered membersFeed
     gathered-split f g h e =
-        sym (xor-below-split N (memberBytes l y j f) (memberBytes l y j g))
-        ∙ xor-below-cong N (λ m. memberBytes l y j f m ⊕ memberBytes l y j g m) (memberBytes l y j h) e
+        sym (xor-below-split N (memberBytes y j f) (memberBytes y j g))
+        ∙ xor-below-cong N (λ m. memberBytes y j f m ⊕ memberBytes y j g m) (memberBytes y j h) e
 
     module _ (whole : Whole y) (f : ℕ → ℕ) (numbered : (m : ℕ) → m < N → Numbered l (f m)) where
-      length-member : (m : ℕ) → m < N → length (memberBytes l y j f m) ≤ W
+      length-member : (m : ℕ) → m < N → length (memberBytes y j f m) ≤ W
       length-member m h = length-bytes-most y whole (memberChip l j m) (f m) (member-chip-fits l j m h) (numbered m h)
 
-      pub length-gathered : length (gathered l y j f) ≤ W
-      unfolding gathered
-      length-gathered = length-xor-below N W (memberBytes l y j f) length-member
+      pub length-gathered : length (gathered l y j f .bytes) ≤ W
+      unfolding gathered membersFeed
+      length-gathered = length-xor-below N W (memberBytes y j f) length-member
 
-      pub gathered-whole : (m : ℕ) → m < N → f m ≢ none l → length (gathered l y j f) ≡ W
-      unfolding gathered
+      pub gathered-whole : (m : ℕ) → m < N → f m ≢ none l → length (gathered l y j f .bytes) ≡ W
+      unfolding gathered membersFeed
       gathered-whole m h d =
-          length-xor-below-exact N W m (memberBytes l y j f) length-member h
+          length-xor-below-exact N W m (memberBytes y j f) length-member h
           (length-bytes y whole (memberChip l j m) (f m) (member-chip-fits l j m h) (numbered m h) d)
 
   -- ---- images of their lengths

@@ -8,9 +8,8 @@ use Rattle.ranges.proofs.Looks.{by-test, both}
 use Rattle.ranges.proofs.Counts.{count-apart, count-implies}
 use Rattle.layout.specs.Layout.{Layout, none, isNone}
 use Rattle.layout.specs.Record.{Record, bit}
-use Rattle.rules.specs.Gather.{readsAt, isPage, gatheredReads}
 use Rattle.rules.specs.Costs.{setBits, mostInPartial, costOf}
-use Rattle.rules.proofs.Data.Feeds.{currentOutside, oldInside, parityReads}
+use Rattle.rules.proofs.Data.Feeds.{readsAt, isPage, gatheredReads, currentOutside, oldInside, parityReads}
 
 module _ (l : Layout) where
   open Layout l using (N)

@@ -22,7 +22,6 @@ use Rattle.layout.proofs.Rotations.{parity-chip-fits, member-chip-fits}
 use Rattle.layout.proofs.Records.{bits-of-none, SixMembers}
 use Rattle.layout.proofs.Pages.{page-number}
 use Rattle.rules.specs.Names.{mainNumber, sideNumber}
-use Rattle.rules.specs.Gather.{bytesAt, gathered}
 use Rattle.rules.specs.Costs.{setBits, mostInPartial}
 use Rattle.rules.specs.Parity.{committed}
 use Rattle.rules.specs.Partial.{written}
@@ -31,7 +30,7 @@ use Rattle.rules.proofs.Stores.Names.{main-member, side-member, main-pa
 use Rattle.rules.proofs.Stores.Stays.{stays-same, member-same}
 use Rattle.rules.proofs.Data.Contents.{numbered-none, length-bytes-most, length-gathered, pages-whole, slot-whole, slot-bits}
 use Rattle.rules.proofs.Data.Parity.{written-bit, written-bit-other, written-current, written-current-other, written-old, written-old-other, numbered-outside, numbered-under-parity, numbered-old}
-use Rattle.rules.specs.Fetch.{underParity}
+use Rattle.rules.specs.Fetch.{itself, gathered, underParity}
 use Rattle.rules.proofs.Data.Feeds.{currentOutside, oldInside, parityBytes, partialBytes}
 
 module _ (l : Layout) where
@@ -187,7 +186,7 @@ module _ (l : Layout) where
     length-slot : hasSlot r ≡ true → length (slotAt l (s .slots) (r .slot)) ≡ W
     length-slot t = slot-whole l s (f .slots) (r .slot) (omega (arith, sound .slot (slot-bits l r sound t)))
 
-    short : (g : ℕ → ℕ) → ((m : ℕ) → m < N → Numbered l (g m)) → length (gathered l y j g) ≤ W
+    short : (g : ℕ → ℕ) → ((m : ℕ) → m < N → Numbered l (g m)) → length (gathered l y j g .bytes) ≤ W
     short = length-gathered l y j (pages-whole l s (f .chips))
 
     -- both are W bytes long
@@ -195,10 +194,10 @@ module _ (l : Layout) where
     unfolding parityBytes
     new-parity-length t =
         let x = slotAt l (s .slots) (r .slot) in
-        let parity = bytesAt l y (parityChip l j) (r .parity) in
-        let old = gathered l y j (oldInside l r) in
+        let parity = itself l y (parityChip l j) (r .parity) .bytes in
+        let old = gathered l y j (oldInside l r) .bytes in
         by-test (mostInPartial l (setBits l r))
-        (λ e. rw e (length-xors-left x (gathered l y j (currentOutside l r)) (omega (arith, length-slot t, short (currentOutside l r) (numbered-outside l w r sound))) ∙ length-slot t))
+        (λ e. rw e (length-xors-left x (gathered l y j (currentOutside l r) .bytes) (omega (arith, length-slot t, short (currentOutside l r) (numbered-outside l w r sound))) ∙ length-slot t))
         (λ e. rw e
         (length-xors-left x (parity ⊕ old)
         (omega (arith, length-slot t, length-xors parity old, short (oldInside l r) (numbered-old l w r sound), length-bytes-most l y (pages-whole l s (f .chips)) (parityChip l j) (r .parity) (parity-chip-fits l j) (sound .parity)))
@@ -210,7 +209,7 @@ module _ (l : Layout) where
   new-partial-length w s j m xs f fits h long =
       let r = recordAt l (s .records) j in
       let x = slotAt l (s .slots) (r .slot) in
-      let page = bytesAt l (pageAt l (s .chips)) (memberChip l j m) (r .current m) in
+      let page = itself l (pageAt l (s .chips)) (memberChip l j m) (r .current m) .bytes in
       let short =
       length-bytes-most l (pageAt l (s .chips)) (pages-whole l s (f .chips)) (memberChip l j m) (r .current m) (member-chip-fits l j m h) (sound-member l w r (sound w s j f fits) m h .current) in
       by-test (hasSlot r)

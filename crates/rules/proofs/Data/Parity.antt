@@ -4,7 +4,7 @@ use native.Mathlib.Decide.{ℕ-discrete}
 use native.Mathlib.Omega.{arith}
 use mathlib.Core.Path.{_≡_, refl, sym, ap, _∙_}
 use mathlib.Core.Logic.{_≢_}
-use mathlib.Core.Bool.{true, false, not, _&&_, cond, and-true, and-false}
+use mathlib.Core.Bool.{true, false, not, _&&_, and-true, and-false}
 use mathlib.Core.List.{List}
 use lib.ListN.{length}
 use lib.Dec.{eqb}
@@ -23,8 +23,7 @@ use Rattle.layout.proofs.Rotations.{member-chip-fits}
 use Rattle.layout.proofs.Records.{bits-of-none}
 use Rattle.rules.specs.declared.Role.{Role}
 use Rattle.rules.specs.declared.Role.the-variants.{Current, Old, Parity}
-use Rattle.rules.specs.Gather.{bytesAt, gathered}
-use Rattle.rules.specs.Fetch.{chipIn, numberIn, underParity, othersUnderParity, othersInside, throughPartial, throughParity, parityAnew, rebuilt}
+use Rattle.rules.specs.Fetch.{itself, gathered, chipIn, numberIn, underParity, othersUnderParity, othersInside, throughPartial, throughParity, parityAnew, rebuilt}
 use Rattle.rules.specs.Partial.{written}
 use Rattle.rules.specs.Costs.{setBits, mostInPartial}
 use Rattle.rules.specs.Parity.{committed}
@@ -160,21 +159,21 @@ module _ (l : Layout) (w : Within l) (r : Record) (f : RecordSound l r) where
 -- ---- the groups together
 
 module _ (l : Layout) (y : ℕ → ℕ → Page) (j : ℕ) (r : Record) where
-  inside-outside : gathered l y j (currentInside l r) ⊕ gathered l y j (currentOutside l r) ≡ gathered l y j (r .current)
+  inside-outside : gathered l y j (currentInside l r) .bytes ⊕ gathered l y j (currentOutside l r) .bytes ≡ gathered l y j (r .current) .bytes
   unfolding currentInside currentOutside
   inside-outside =
       gathered-split l y j (currentInside l r) (currentOutside l r) (r .current)
       (λ m h. by-test (bit r m)
-      (λ t. rw (t, bytes-none l y (memberChip l j m)) (xor-nil-r (bytesAt l y (memberChip l j m) (r .current m))))
-      (λ t. rw (t, bytes-none l y (memberChip l j m)) (xor-nil-l (bytesAt l y (memberChip l j m) (r .current m)))))
+      (λ t. rw (t, bytes-none l y (memberChip l j m)) (xor-nil-r (itself l y (memberChip l j m) (r .current m) .bytes)))
+      (λ t. rw (t, bytes-none l y (memberChip l j m)) (xor-nil-l (itself l y (memberChip l j m) (r .current m) .bytes))))
 
-  old-outside : gathered l y j (oldInside l r) ⊕ gathered l y j (currentOutside l r) ≡ gathered l y j (underParity l r)
+  old-outside : gathered l y j (oldInside l r) .bytes ⊕ gathered l y j (currentOutside l r) .bytes ≡ gathered l y j (underParity l r) .bytes
   unfolding oldInside currentOutside underParity
   old-outside =
       gathered-split l y j (oldInside l r) (currentOutside l r) (underParity l r)
       (λ m h. by-test (bit r m)
-      (λ t. rw (t, bytes-none l y (memberChip l j m)) (xor-nil-r (bytesAt l y (memberChip l j m) (r .old m))))
-      (λ t. rw (t, bytes-none l y (memberChip l j m)) (xor-nil-l (bytesAt l y (memberChip l j m) (r .current m)))))
+      (λ t. rw (t, bytes-none l y (memberChip l j m)) (xor-nil-r (itself l y (memberChip l j m) (r .old m) .bytes)))
+      (λ t. rw (t, bytes-none l y (memberChip l j m)) (xor-nil-l (itself l y (memberChip l j m) (r .current m) .bytes))))
 
 -- ---- one stripe
 
@@ -187,35 +186,35 @@ memberIn l Parity = Unit
 module _ (l : Layout) (w : Within l) (y : ℕ → ℕ → Page) (whole : Whole l y) (z : ℕ → List ℕ) (j : ℕ) (r : Record) (f : RecordSound l r) (d : StripeData l y z j r) where
   open Layout l using (N, W)
 
-  page-whole : (m : ℕ) → m < N → r .current m ≢ none l → length (bytesAt l y (memberChip l j m) (r .current m)) ≡ W
+  page-whole : (m : ℕ) → m < N → r .current m ≢ none l → length (itself l y (memberChip l j m) (r .current m) .bytes) ≡ W
   page-whole m h e =
       length-bytes l y whole (memberChip l j m) (r .current m) (member-chip-fits l j m h) (sound-member l w r f m h .current) e
 
   -- the group of the slot, and the group of the parity, with one member taken out
   partial-one : (m : ℕ) → m < N → bit r m ≡ true
-      → z (r .slot) ≡ gathered l y j (othersInside l m r) ⊕ bytesAt l y (memberChip l j m) (r .current m)
+      → z (r .slot) ≡ gathered l y j (othersInside l m r) .bytes ⊕ itself l y (memberChip l j m) (r .current m) .bytes
   partial-one m h t =
       d .partial (bit-slot l w r f m t)
       ∙ gathered-one l y j (othersInside l m r) (currentInside l r) m h (others-inside-here l m r) (λ k b. others-inside-other l m r k)
-      ∙ ap (λ p. gathered l y j (othersInside l m r) ⊕ bytesAt l y (memberChip l j m) p) (inside-set l m r t)
+      ∙ ap (λ p. gathered l y j (othersInside l m r) .bytes ⊕ itself l y (memberChip l j m) p .bytes) (inside-set l m r t)
 
   parity-one : (m : ℕ) → m < N
-      → bytesAt l y (parityChip l j) (r .parity) ≡ gathered l y j (othersUnderParity l m r) ⊕ bytesAt l y (memberChip l j m) (underParity l r m)
+      → itself l y (parityChip l j) (r .parity) .bytes ≡ gathered l y j (othersUnderParity l m r) .bytes ⊕ itself l y (memberChip l j m) (underParity l r m) .bytes
   parity-one m h =
       d .parity
       ∙ gathered-one l y j (othersUnderParity l m r) (underParity l r) m h (under-parity-here l m r) (λ k b. under-parity-other l m r k)
 
   -- the group without a page gives the bytes of that page
-  rebuilt-inside : (m : ℕ) → m < N → bit r m ≡ true → throughPartial l y z j r m .bytes ≡ bytesAt l y (memberChip l j m) (r .current m)
+  rebuilt-inside : (m : ℕ) → m < N → bit r m ≡ true → throughPartial l y z j r m .bytes ≡ itself l y (memberChip l j m) (r .current m) .bytes
   unfolding throughPartial
   rebuilt-inside m h t =
-      cancel-rest (z (r .slot)) (gathered l y j (othersInside l m r)) (bytesAt l y (memberChip l j m) (r .current m)) (partial-one m h t)
+      cancel-rest (z (r .slot)) (gathered l y j (othersInside l m r) .bytes) (itself l y (memberChip l j m) (r .current m) .bytes) (partial-one m h t)
       (omega (arith, page-whole m h (sound-member l w r f m h .current-under-bit t .0), length-gathered l y j whole (othersInside l m r) (numbered-others-inside l w r f m)))
 
-  rebuilt-under : (m : ℕ) → m < N → underParity l r m ≢ none l → throughParity l y z j r m .bytes ≡ bytesAt l y (memberChip l j m) (underParity l r m)
+  rebuilt-under : (m : ℕ) → m < N → underParity l r m ≢ none l → throughParity l y z j r m .bytes ≡ itself l y (memberChip l j m) (underParity l r m) .bytes
   unfolding throughParity
   rebuilt-under m h page =
-      cancel-rest (bytesAt l y (parityChip l j) (r .parity)) (gathered l y j (othersUnderParity l m r)) (bytesAt l y (memberChip l j m) (underParity l r m))
+      cancel-rest (itself l y (parityChip l j) (r .parity) .bytes) (gathered l y j (othersUnderParity l m r) .bytes) (itself l y (memberChip l j m) (underParity l r m) .bytes)
       (parity-one m h)
       (omega (
         arith,
@@ -223,13 +222,13 @@ module _ (l : Layout) (w : Within l) (y : ℕ → ℕ → Page) (whole : Whole l
         length-gathered l y j whole (othersUnderParity l m r) (numbered-others-under-parity l w r f m),
       ))
 
-  rebuilt-parity : parityAnew l y z j r .bytes ≡ bytesAt l y (parityChip l j) (r .parity)
+  rebuilt-parity : parityAnew l y z j r .bytes ≡ itself l y (parityChip l j) (r .parity) .bytes
   unfolding parityAnew
   rebuilt-parity = sym (d .parity)
 
   -- a page in any role that is rebuilt is that page
   pub rebuilt-right : (role : Role) → memberIn l role → numberIn l r role ≢ none l
-      → rebuilt l y z j r role .bytes ≡ bytesAt l y (chipIn l j role) (numberIn l r role)
+      → rebuilt l y z j r role .bytes ≡ itself l y (chipIn l j role) (numberIn l r role) .bytes
   rebuilt-right (Current m) h page =
       by-test (bit r m)
       (λ t. rw t (rebuilt-inside m h t))
@@ -246,21 +245,21 @@ module _ (l : Layout) (w : Within l) (y : ℕ → ℕ → Page) (whole : Whole l
   no-others m s k = rw (no-slot-no-bit l w r f s k)
 
   after-write : (m p i : ℕ) (xs : List ℕ) → m < N → p ≢ none l → y (memberChip l j m) p .bytes ≡ xs
-      → gathered l y j (currentInside l (written l m p i r)) ≡ gathered l y j (othersInside l m r) ⊕ xs
+      → gathered l y j (currentInside l (written l m p i r)) .bytes ≡ gathered l y j (othersInside l m r) .bytes ⊕ xs
   after-write m p i xs h page e =
       gathered-one l y j (othersInside l m r) (currentInside l (written l m p i r)) m h (others-inside-here l m r) (λ k b. written-inside-other l m p i r k)
-      ∙ ap (λ q. gathered l y j (othersInside l m r) ⊕ bytesAt l y (memberChip l j m) q) (written-inside l m p i r)
-      ∙ ap (λ q. gathered l y j (othersInside l m r) ⊕ q) (bytes-page l y (memberChip l j m) p page ∙ e)
+      ∙ ap (λ q. gathered l y j (othersInside l m r) .bytes ⊕ itself l y (memberChip l j m) q .bytes) (written-inside l m p i r)
+      ∙ ap (λ q. gathered l y j (othersInside l m r) .bytes ⊕ q) (bytes-page l y (memberChip l j m) p page ∙ e)
 
   -- the partial of a write is the data and the other pages of the bitmap
   partial-written : (m : ℕ) (xs : List ℕ) → m < N → length xs ≡ W
-      → partialBytes l y z j m xs r ≡ gathered l y j (othersInside l m r) ⊕ xs
+      → partialBytes l y z j m xs r ≡ gathered l y j (othersInside l m r) .bytes ⊕ xs
   unfolding partialBytes
   partial-written m xs h long =
       by-test (hasSlot r)
       (λ s. by-test (bit r m)
       (λ t. rw (s, t, partial-one m h t)
-      (cancel-inside (gathered l y j (othersInside l m r)) (bytesAt l y (memberChip l j m) (r .current m)) xs
+      (cancel-inside (gathered l y j (othersInside l m r) .bytes) (itself l y (memberChip l j m) (r .current m) .bytes) xs
       (omega (arith, page-whole m h (sound-member l w r f m h .current-under-bit t .0)))))
       (λ t. rw (s, t, d .partial s, gathered-same l y j (othersInside l m r) (currentInside l r) (λ k b. others-inside-clear l m r t k))))
       (λ s. rw (s, gathered-none l y j (othersInside l m r) (λ k b. no-others m s k)) (sym (xor-nil-l xs)))
@@ -284,21 +283,21 @@ module _ (l : Layout) (w : Within l) (y : ℕ → ℕ → Page) (whole : Whole l
       (rw (inside-set l m r t) (sound-member l w r f m h .current-under-bit t .0))
 
   -- both formulas give the XOR of all current pages
-  new-parity-is : hasSlot r ≡ true → parityBytes l y z j r ≡ gathered l y j (r .current)
+  new-parity-is : hasSlot r ≡ true → parityBytes l y z j r ≡ gathered l y j (r .current) .bytes
   unfolding parityBytes
   new-parity-is s =
-      let all = ap (λ x. x ⊕ gathered l y j (currentOutside l r)) (d .partial s) ∙ inside-outside l y j r in
+      let all = ap (λ x. x ⊕ gathered l y j (currentOutside l r) .bytes) (d .partial s) ∙ inside-outside l y j r in
       by-test (mostInPartial l (setBits l r))
       (λ t. rw t all)
       (λ t. rw (t, d .parity, ← old-outside l y j r)
-      (cancel-around (z (r .slot)) (gathered l y j (oldInside l r)) (gathered l y j (currentOutside l r))
+      (cancel-around (z (r .slot)) (gathered l y j (oldInside l r) .bytes) (gathered l y j (currentOutside l r) .bytes)
       (omega (arith, partial-whole s, length-gathered l y j whole (oldInside l r) (numbered-old l w r f)))
       ∙ all))
 
   -- after the commit both groups are right
   pub commit-data : (p : ℕ) → p ≢ none l → hasSlot r ≡ true → (y′ : ℕ → ℕ → Page)
       → y′ (parityChip l j) p .bytes ≡ parityBytes l y z j r
-      → ((m : ℕ) → m < N → bytesAt l y′ (memberChip l j m) (r .current m) ≡ bytesAt l y (memberChip l j m) (r .current m))
+      → ((m : ℕ) → m < N → itself l y′ (memberChip l j m) (r .current m) .bytes ≡ itself l y (memberChip l j m) (r .current m) .bytes)
       → (z′ : ℕ → List ℕ) → StripeData l y′ z′ j (committed l p r)
   unfolding committed
   commit-data p page s y′ e same z′ = record {
@@ -309,5 +308,5 @@ module _ (l : Layout) (w : Within l) (y : ℕ → ℕ → Page) (whole : Whole l
         ∙ new-parity-is s
         ∙ sym
         (gathered-cong l y y′ j (r .current) (underParity l (committed l p r))
-        (λ m h. ap (bytesAt l y′ (memberChip l j m)) (committed-under-parity l p r m) ∙ same m h));
+        (λ m h. ap (λ q. itself l y′ (memberChip l j m) q .bytes) (committed-under-parity l p r m) ∙ same m h));
   }

@@ -7,6 +7,8 @@ use mathlib.Core.List.{List}
 use lib.Dec.{eqb}
 use borrow.Author.Tests.{eq-eqb, ne-eqb}
 use Rattle.ranges.proofs.Looks.{by-test}
+use Rattle.ranges.proofs.Sums.{sum-cong}
+use Rattle.bytes.proofs.Xors.{xor-below-cong}
 use Rattle.layout.specs.Layout.{Layout, noChip, none}
 use Rattle.layout.specs.Rotation.{parityChip, memberChip, memberOf, stripeOf}
 use Rattle.layout.specs.Page.{Page, pageAt}
@@ -16,16 +18,15 @@ use Rattle.layout.proofs.Limits.{Within}
 use Rattle.layout.proofs.Rotations.{member-chip-other, other-member-chip, member-chip-fits, stripe-fits, member-fits}
 use Rattle.rules.specs.declared.Role.{Role}
 use Rattle.rules.specs.declared.Role.the-variants.{Current, Old, Parity}
-use Rattle.rules.specs.Gather.{bytesAt, gathered}
-use Rattle.rules.specs.Fetch.{Fetched, chipIn, numberIn, underParity, othersUnderParity, othersInside, itself, throughPartial, throughParity, parityAnew, rebuilt, fetchRole, fetchIn}
+use Rattle.rules.specs.Fetch.{Fetched, itself, membersFeed, gathered, chipIn, numberIn, underParity, othersUnderParity, othersInside, throughPartial, throughParity, parityAnew, rebuilt, fetchRole, fetchIn}
 use Rattle.rules.specs.Read.{unwritten, fetchMember, fetch}
 use Rattle.rules.proofs.Soundness.Statements.{Sound}
-use Rattle.rules.proofs.Data.Contents.{Data, bytes-none, gathered-cong, pages-whole}
+use Rattle.rules.proofs.Data.Contents.{Data, pages-whole}
 use Rattle.rules.proofs.Data.Feeds.{page-there}
 use Rattle.rules.proofs.Data.Parity.{memberIn, others-inside-here, under-parity-here, rebuilt-right}
 
 module _ (l : Layout) where
-  open Layout l using (N, W, S)
+  open Layout l using (N, S)
 
   -- ---- the two ways of a fetch
 
@@ -34,34 +35,48 @@ module _ (l : Layout) where
     unfolding fetchRole
     role-rebuilt e d = rw (eq-eqb (chipIn l j role) lost e, ne-eqb (numberIn l r role) (none l) d)
 
-    role-none : numberIn l r role ≡ none l → fetchRole l y z j r lost role ≡ itself l y z j r (chipIn l j role) (none l)
+    role-none : numberIn l r role ≡ none l → fetchRole l y z j r lost role ≡ itself l y (chipIn l j role) (none l)
     unfolding fetchRole
     role-none e = by-test (eqb (chipIn l j role) lost) (λ t. rw (t, e, eq-eqb (none l) (none l) refl)) (λ t. rw (t, e))
 
-    role-direct : chipIn l j role ≢ lost → fetchRole l y z j r lost role ≡ itself l y z j r (chipIn l j role) (numberIn l r role)
+    role-direct : chipIn l j role ≢ lost → fetchRole l y z j r lost role ≡ itself l y (chipIn l j role) (numberIn l r role)
     unfolding fetchRole
     role-direct d = rw (ne-eqb (chipIn l j role) lost d)
 
   -- ---- a lost chip is not looked at
 
   module _ (y y′ : ℕ → ℕ → Page) (z : ℕ → List ℕ) (lost : ℕ) (elsewhere : (c : ℕ) → c ≢ lost → y′ c ≡ y c) (j : ℕ) (r : Record) where
-    bytes-elsewhere : (c p : ℕ) → c ≢ lost → bytesAt l y′ c p ≡ bytesAt l y c p
-    unfolding bytesAt
-    bytes-elsewhere c p d = rw (elsewhere c d)
+    itself-elsewhere : (c p : ℕ) → c ≢ lost → itself l y′ c p ≡ itself l y c p
+    unfolding itself
+    itself-elsewhere c p d = rw (elsewhere c d)
+
+    none-elsewhere : (c p : ℕ) → p ≡ none l → itself l y′ c p ≡ itself l y c p
+    unfolding itself
+    none-elsewhere c p e = rw (eq-eqb p (none l) e)
+
+    gathered-same : (g : ℕ → ℕ) → ((k : ℕ) → k < N → itself l y′ (memberChip l j k) (g k) ≡ itself l y (memberChip l j k) (g k)) → gathered l y′ j g ≡ gathered l y j g
+    unfolding gathered membersFeed
+    gathered-same g h =
+        rw (
+          xor-below-cong N (λ k. itself l y′ (memberChip l j k) (g k) .bytes) (λ k. itself l y (memberChip l j k) (g k) .bytes)
+              (λ k b. ap (λ (x : Fetched). x .bytes) (h k b)),
+          sum-cong N (λ k. itself l y′ (memberChip l j k) (g k) .reads) (λ k. itself l y (memberChip l j k) (g k) .reads)
+              (λ k b. ap (λ (x : Fetched). x .reads) (h k b)),
+        )
 
     -- member m is on the lost chip, and nothing of it is gathered
     module _ (m : ℕ) (on-it : memberChip l j m ≡ lost) where
       gathered-elsewhere : (g : ℕ → ℕ) → g m ≡ none l → gathered l y′ j g ≡ gathered l y j g
-      gathered-elsewhere g e = gathered-cong l y y′ j g g λ k b. elim (ℕ-discrete k m) [
-        | yes q ↦ rw (q, e, bytes-none l y′ (memberChip l j m), bytes-none l y (memberChip l j m))
-        | no d ↦ bytes-elsewhere (memberChip l j k) (g k) (λ q. other-member-chip l j m k d (q ∙ sym on-it))
+      gathered-elsewhere g e = gathered-same g λ k b. elim (ℕ-discrete k m) [
+        | yes q ↦ none-elsewhere (memberChip l j k) (g k) (rw q e)
+        | no d ↦ itself-elsewhere (memberChip l j k) (g k) (λ q. other-member-chip l j m k d (q ∙ sym on-it))
       ]
 
       through-parity-elsewhere : throughParity l y′ z j r m ≡ throughParity l y z j r m
       unfolding throughParity
       through-parity-elsewhere =
           rw (
-            bytes-elsewhere (parityChip l j) (r .parity) (λ e. member-chip-other l j m (on-it ∙ sym e)),
+            itself-elsewhere (parityChip l j) (r .parity) (λ e. member-chip-other l j m (on-it ∙ sym e)),
             gathered-elsewhere (othersUnderParity l m r) (under-parity-here l m r),
           )
 
@@ -72,8 +87,7 @@ module _ (l : Layout) where
     parity-elsewhere : parityChip l j ≡ lost → parityAnew l y′ z j r ≡ parityAnew l y z j r
     unfolding parityAnew
     parity-elsewhere e =
-        rw (gathered-cong l y y′ j (underParity l r) (underParity l r)
-        (λ m b. bytes-elsewhere (memberChip l j m) (underParity l r m) (λ q. member-chip-other l j m (q ∙ sym e))))
+        rw (gathered-same (underParity l r) (λ m b. itself-elsewhere (memberChip l j m) (underParity l r m) (λ q. member-chip-other l j m (q ∙ sym e))))
 
     rebuilt-elsewhere : (role : Role) → chipIn l j role ≡ lost → rebuilt l y′ z j r role ≡ rebuilt l y z j r role
     rebuilt-elsewhere (Current m) e =
@@ -84,10 +98,10 @@ module _ (l : Layout) where
     role-elsewhere : (role : Role) → fetchRole l y′ z j r lost role ≡ fetchRole l y z j r lost role
     role-elsewhere role = elim (ℕ-discrete (chipIn l j role) lost) [
       | yes e ↦ elim (ℕ-discrete (numberIn l r role) (none l)) [
-        | yes q ↦ rw (role-none y′ z j r lost role q, role-none y z j r lost role q, bytes-none l y′ (chipIn l j role), bytes-none l y (chipIn l j role))
+        | yes q ↦ rw (role-none y′ z j r lost role q, role-none y z j r lost role q) (none-elsewhere (chipIn l j role) (none l) refl)
         | no d ↦ rw (role-rebuilt y′ z j r lost role e d, role-rebuilt y z j r lost role e d) (rebuilt-elsewhere role e)
       ]
-      | no d ↦ rw (role-direct y′ z j r lost role d, role-direct y z j r lost role d, bytes-elsewhere (chipIn l j role) (numberIn l r role) d)
+      | no d ↦ rw (role-direct y′ z j r lost role d, role-direct y z j r lost role d) (itself-elsewhere (chipIn l j role) (numberIn l r role) d)
     ]
 
   -- a read depends on no page of the lost chip
@@ -117,7 +131,7 @@ module _ (l : Layout) where
     -- the bytes of a page that was written, where no chip is lost
     pub fetch-direct : (s : Images) (i : ℕ) → recordAt l (s .records) (stripeOf l i) .current (memberOf l i) ≢ none l
         → fetch l s noChip i .bytes
-        ≡ bytesAt l (pageAt l (s .chips)) (memberChip l (stripeOf l i) (memberOf l i)) (recordAt l (s .records) (stripeOf l i) .current (memberOf l i))
+        ≡ itself l (pageAt l (s .chips)) (memberChip l (stripeOf l i) (memberOf l i)) (recordAt l (s .records) (stripeOf l i) .current (memberOf l i)) .bytes
     unfolding fetchIn
     fetch-direct s i d =
         let j = stripeOf l i in
@@ -129,7 +143,7 @@ module _ (l : Layout) where
     module _ (s : Images) (sound : Sound l s) (contents : Data l s) where
       -- a page in any role is the same with any chip lost
       role-any : (lost j : ℕ) → j < S → (role : Role) → memberIn l role
-          → fetchIn l s lost j role .bytes ≡ bytesAt l (pageAt l (s .chips)) (chipIn l j role) (numberIn l (recordAt l (s .records) j) role)
+          → fetchIn l s lost j role .bytes ≡ itself l (pageAt l (s .chips)) (chipIn l j role) (numberIn l (recordAt l (s .records) j) role) .bytes
       unfolding fetchIn
       role-any lost j stripe role member =
           let y = pageAt l (s .chips) in

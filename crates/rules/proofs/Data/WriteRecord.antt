@@ -25,7 +25,7 @@ use Rattle.layout.proofs.Pages.{page-number}
 use Rattle.layout.proofs.Rotations.{stripe-fits, member-fits}
 use Rattle.steps.specs.Store.{stripe, apply}
 use Rattle.rules.specs.Partial.{written}
-use Rattle.rules.specs.Fetch.{Fetched, underParity}
+use Rattle.rules.specs.Fetch.{underParity}
 use Rattle.rules.specs.Read.{fetch}
 use Rattle.rules.proofs.Soundness.Statements.{Usable, RecordSound, Sound}
 use Rattle.rules.proofs.Stores.Names.{main-member, side-member, unnamed-at}

@@ -15,17 +15,16 @@ use Rattle.steps.specs.Steps.{applyAll, andThen, counted, countedAll, stepsBelo
 use Rattle.steps.specs.Store.{programmed, erased, recorded, apply}
 use Rattle.rules.specs.Blocks.{cleanBlock, fullBlock, orderedBlock, lowestCleanBlock}
 use Rattle.rules.specs.Calls.{run, formatCall, openCall, writeCall, commitCall, collectCall, readCall}
-use Rattle.rules.specs.Collect.{collectable, namedCount, victimOf, copyFrom, copySteps, copyFeed, collectSteps}
+use Rattle.rules.specs.Collect.{collectable, namedCount, victimOf, copyFrom, copySteps, copyFeed, collectBlock, collectSteps}
 use Rattle.rules.specs.Costs.{setBits, costOf, cheapest}
 use Rattle.rules.specs.Parity.{newParity, committed, commitAt}
 use Rattle.rules.specs.Commit.{commitSteps}
 use Rattle.rules.specs.Format.{formatSteps}
-use Rattle.rules.specs.Gather.{bytesAt, readsAt, gathered, gatheredReads}
 use Rattle.rules.specs.Names.{mainNumber, sideNumber, roleOf, kindOn, memberByte, names, named}
 use Rattle.rules.specs.Open.{repointed, due, moveFrom, moveSteps, finishOf, finishSteps, openSteps}
 use Rattle.rules.specs.Place.{openBlock, lowestCleanPage, placeOf}
 use Rattle.rules.specs.Room.{roomSteps, atPlace, placed}
-use Rattle.rules.specs.Fetch.{underParity, othersUnderParity, othersInside, throughPartial, throughParity, parityAnew, fetchRole, fetchIn, membersFeed}
+use Rattle.rules.specs.Fetch.{itself, gathered, underParity, othersUnderParity, othersInside, throughPartial, throughParity, parityAnew, fetchRole, fetchIn, membersFeed}
 use Rattle.rules.specs.Read.{fetchMember, fetch}
 use Rattle.rules.specs.Refusals.{buffersRows, imagesRows, readRows, settledRows, writeRows, commitRows, collectRows}
 use Rattle.rules.specs.Sound.{memberSound, recordSound, collectionSound, recordsSound, stampedStripe, phase1Sound, twin, phase2Sound, chipSound, sparesSound}
@@ -33,5 +32,5 @@ use Rattle.rules.specs.Partial.{lowestFreeSlot, newPartial, written, slo
 use Rattle.rules.specs.Write.{commitOwed, owedSteps, writeMember, writeSteps}
 
 unfoldable pub computes : ℕ
-unfolding allBelow someBelow countBelow whenFound firstBelow leastBelow sumBelow number digits part put unit unitPut at _⊕_ xorBelow collectionOf bytesOfCollection collectionAt chipsLength recordsLength slotsLength lengths slotAt none limits blankTail pageOf bytesOfPage pageAt bit row sixFrom recordOf bytesOfRecord emptyRecord recordAt parityChip memberChip memberOn applyAll andThen counted countedAll stepsBelow thenBelow programmed erased recorded apply cleanBlock fullBlock orderedBlock lowestCleanBlock run formatCall openCall writeCall commitCall collectCall readCall collectable namedCount victimOf copyFrom copySteps copyFeed collectSteps setBits costOf cheapest newParity committed commitAt commitSteps formatSteps bytesAt readsAt gathered gatheredReads mainNumber sideNumber roleOf kindOn memberByte names named repointed due moveFrom moveSteps finishOf finishSteps openSteps openBlock lowestCleanPage placeOf roomSteps atPlace placed underParity othersUnderParity othersInside throughPartial throughParity parityAnew fetchRole fetchIn membersFeed fetchMember fetch buffersRows imagesRows readRows settledRows writeRows commitRows collectRows memberSound recordSound collectionSound recordsSound stampedStripe phase1Sound twin phase2Sound chipSound sparesSound commitOwed owedSteps lowestFreeSlot newPartial written slotSteps writeAt writeMember writeSteps
+unfolding allBelow someBelow countBelow whenFound firstBelow leastBelow sumBelow number digits part put unit unitPut at _⊕_ xorBelow collectionOf bytesOfCollection collectionAt chipsLength recordsLength slotsLength lengths slotAt none limits blankTail pageOf bytesOfPage pageAt bit row sixFrom recordOf bytesOfRecord emptyRecord recordAt parityChip memberChip memberOn applyAll andThen counted countedAll stepsBelow thenBelow programmed erased recorded apply cleanBlock fullBlock orderedBlock lowestCleanBlock run formatCall openCall writeCall commitCall collectCall readCall collectable namedCount victimOf copyFrom copySteps copyFeed collectBlock collectSteps setBits costOf cheapest newParity committed commitAt commitSteps formatSteps itself gathered mainNumber sideNumber roleOf kindOn memberByte names named repointed due moveFrom moveSteps finishOf finishSteps openSteps openBlock lowestCleanPage placeOf roomSteps atPlace placed underParity othersUnderParity othersInside throughPartial throughParity parityAnew fetchRole fetchIn membersFeed fetchMember fetch buffersRows imagesRows readRows settledRows writeRows commitRows collectRows memberSound recordSound collectionSound recordsSound stampedStripe phase1Sound twin phase2Sound chipSound sparesSound commitOwed owedSteps lowestFreeSlot newPartial written slotSteps writeAt writeMember writeSteps
 computes = 0

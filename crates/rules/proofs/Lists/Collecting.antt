@@ -2,6 +2,7 @@
 use Prim.Native.Nat.{ℕ, _+_, _<_}
 use mathlib.Core.Path.{_≡_, ap}
 use mathlib.Core.Logic.{_≢_}
+use mathlib.Core.Bool.{true}
 use mathlib.Core.List.{List}
 use borrow.Author.Tests.{not-true}
 use Rattle.ranges.specs.declared.Found.the-variants.{At}
@@ -18,7 +19,7 @@ use Rattle.steps.proofs.View.{wiped}
 use Rattle.steps.proofs.Prefixes.{Leads, leads-nil, leads-then, leads-weaken, Closes, closes-then}
 use Rattle.rules.specs.Names.{named}
 use Rattle.rules.specs.Blocks.{cleanIn, usedIn, unnamedIn, cleanBlock, fullBlock, lowestCleanBlock}
-use Rattle.rules.specs.Collect.{collectable, namedCount, victimOf, copySteps, copyFeed, collectSteps}
+use Rattle.rules.specs.Collect.{collectable, namedCount, victimOf, copySteps, copyFeed, collectBlock, collectSteps}
 use Rattle.rules.specs.Open.{finishSteps}
 use Rattle.rules.specs.Place.{placeOf}
 use Rattle.rules.specs.Room.{roomSteps, atPlace, placed}
@@ -35,6 +36,11 @@ module _ (l : Layout) where
     pub rest : collectionAt l (t .records) .phase ≡ 0
     pub place : ℕ
     pub found : placeOf l (pageAt l (t .chips) c) ≡ At place
+
+  -- the victim is a block that can be collected
+  pub victim-collectable : (c : ℕ) (x : ℕ → Page) (r : ℕ → Record) (v : ℕ) → victimOf l c x r ≡ At v → (v < l .B) × (collectable l c x r v ≡ true)
+  unfolding victimOf
+  victim-collectable c x r v victim = let least = least-at (l .B) (collectable l c x r) (namedCount l c x r) v victim in (least .0, least .1)
 
 module _ (l : Layout) (u : Usable l) where
   open Layout l using (N, K, B)
@@ -56,18 +62,17 @@ module _ (l : Layout) (u : Usable l) where
         let (b, fits, is) = here .spare (rest-collects (collectionAt l (s .records)) c rest) in
         first-found B (cleanBlock l x) b fits is
 
-    -- the victim and the destination are such as a collection needs
-    pub chosen-on : (v d : ℕ) → victimOf l c x r ≡ At v → lowestCleanBlock l x ≡ At d → Chosen l s c v d
-    unfolding victimOf collectable fullBlock lowestCleanBlock
-    chosen-on v d victim clean =
-        let least = least-at B (collectable l c x r) (namedCount l c x r) v victim in
-        let (full, spared) = and-both (fullBlock l x v) (someBelow K (unnamedIn l r c v)) (least .1) in
+    -- such a block and the destination are as a collection needs them
+    pub chosen-on : (v d : ℕ) → v < B → collectable l c x r v ≡ true → lowestCleanBlock l x ≡ At d → Chosen l s c v d
+    unfolding collectable fullBlock lowestCleanBlock
+    chosen-on v d block can clean =
+        let (full, spared) = and-both (fullBlock l x v) (someBelow K (unnamedIn l r c v)) can in
         let (i, fits, is) = some-at K (unnamedIn l r c v) spared in
         let low = first-at B (cleanBlock l x) d clean in
         record {
           rest = rest;
           chip = chip;
-          victim = least .0;
+          victim = block;
           destination = low .0;
           full = λ k h. not-true (cleanIn l x v k) (all-at K (usedIn l x v) full k h);
           spared = i;
@@ -76,9 +81,9 @@ module _ (l : Layout) (u : Usable l) where
           is-clean = low .1;
         }
 
-    module _ (v : ℕ) (victim : victimOf l c x r ≡ At v) where
+    module _ (v : ℕ) (block : v < B) (can : collectable l c x r v ≡ true) where
       chosen : Chosen l s c v (destination .0)
-      chosen = chosen-on v (destination .0) victim (destination .1)
+      chosen = chosen-on v (destination .0) block can (destination .1)
 
       -- after it the victim is clean, and the destination has a clean page
       cleared : (t w : Images) → AllCopied l c v (destination .0) t → Ended l t w → HasPlace l c w
@@ -92,16 +97,21 @@ module _ (l : Layout) (u : Usable l) where
           (rw view (wiped-clean l v (pageAt l (t .chips) c))) (a .fits) (rw (view, wiped-other l v (pageAt l (t .chips) c) d (a .last) apart (a .fits)) (a .is-clean)) in
           record { rest = ap (λ (o : Collection). o .phase) (e .is-idle); place = p .0; found = p .1 }
 
-      -- a collection keeps what the images hold, and ends with a place on the chip
-      pub collect-leads : Leads l (Kept l) (HasPlace l c) (collectSteps l c s) s
-      unfolding collectSteps whenFound
-      collect-leads =
-          rw (victim, destination .1)
+      -- the collection of a block keeps what the images hold, and ends with a place on the chip
+      block-leads : Leads l (Kept l) (HasPlace l c) (collectBlock l c v s) s
+      unfolding collectBlock whenFound
+      block-leads =
+          rw (destination .1)
           (leads-then l (Kept l) (kept-trans l) (AllCopied l c v (destination .0)) (HasPlace l c) (copySteps l c x (copyFeed l c s) r v (destination .0)) (finishSteps l) s
           (copies-lead l u s f c v (destination .0) chosen)
           (λ t k a.
           leads-weaken l (Kept l) (Kept l) (Ended l t) (HasPlace l c) (finishSteps l t) t (λ w h. h) (λ w h e. cleared t w a e)
           (finish-leads l u t (k .sound))))
+
+    -- so it is with that of the chip
+    pub collect-leads : (v : ℕ) → victimOf l c x r ≡ At v → Leads l (Kept l) (HasPlace l c) (collectSteps l c s) s
+    unfolding collectSteps whenFound
+    collect-leads v victim = let (block, can) = victim-collectable l c x r v victim in rw victim (block-leads v block can)
 
     -- where there is no place there is a victim, so the collection makes one
     pub room-leads : Leads l (Kept l) (HasPlace l c) (roomSteps l c s) s

@@ -27,8 +27,7 @@ use Rattle.steps.proofs.Lengths.{below-cong}
 use Rattle.rules.specs.Names.{roleOf, named}
 use Rattle.rules.specs.Blocks.{cleanIn, namedIn, unnamedIn, cleanBlock}
 use Rattle.rules.specs.Sound.{collecting, twinIn}
-use Rattle.rules.specs.Gather.{readsAt}
-use Rattle.rules.specs.Fetch.{Feed, fetchIn}
+use Rattle.rules.specs.Fetch.{Feed, itself}
 use Rattle.rules.specs.Collect.{phase, copyOf, copyFrom, copySteps, copyFeed}
 use Rattle.rules.proofs.Soundness.Statements.{Usable, CollectionSound, ChipSound, OneTwin, Sound, sound-chip}
 use Rattle.rules.proofs.Stores.Names.{role-is, named-by, name-stamped, named-used, clean-block-unnamed}
@@ -36,7 +35,7 @@ use Rattle.rules.proofs.Stores.Chips.{Fillable}
 use Rattle.rules.proofs.Stores.Kept.{Copies, Kept, kept-refl, kept-trans, no-copies-yet}
 use Rattle.rules.proofs.Stores.Twins.{twin-is, is-twin}
 use Rattle.rules.proofs.Stores.Storing.{kept-program, kept-collection, program-view, collection-view, collection-records}
-use Rattle.rules.proofs.Data.Contents.{bytes-page, pages-whole}
+use Rattle.rules.proofs.Data.Contents.{pages-whole}
 use Rattle.rules.proofs.Data.Feeds.{page-there}
 use Rattle.rules.proofs.Space.Places.{clean-at}
 
@@ -79,7 +78,7 @@ asStands x p = record { bytes = x p .bytes; reads = 1 }
 -- a page that is named is copied as it stands
 pub copied-as-stands : (l : Layout) (u : Usable l) (s : Images) → Sound l s → (c : ℕ) → c < l .N + 1 → (p : ℕ) → p ≢ none l
     → named l (recordAt l (s .records)) c p ≡ true → copyFeed l c s p ≡ asStands (pageAt l (s .chips) c) p
-unfolding copyFeed fetchIn readsAt
+unfolding copyFeed itself
 copied-as-stands l u s f c chip p is-page n =
     let r = recordAt l (s .records) in
     let (j, low, names-it) = named-by l r c p n in
@@ -90,7 +89,6 @@ copied-as-stands l u s f c chip p is-page n =
       page-there l (u .within) (pageAt l (s .chips)) (slotAt l (s .slots)) j (r j) (roleOf l c j (r j) p) (rw on chip),
       on,
       number,
-      bytes-page l (pageAt l (s .chips)) c p is-page,
       ne-eqb p (none l) is-page,
     )
 

@@ -32,7 +32,7 @@ use Rattle.rules.proofs.Soundness.Accepted.{buffers-accepted, buffers-p
 use Rattle.rules.proofs.Lists.CutRule.{verdictNumber, cut-rules}
 
 module _ (l : Layout) where
-  open Layout l using (N, W, K, B, S, M, D)
+  open Layout l using (N, K, B, S, D)
 
   pub record Fresh (s : Images) : Type 0 where
     pub chips : length (s .chips) ≡ chipsLength l

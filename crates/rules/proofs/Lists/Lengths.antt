@@ -22,7 +22,7 @@ use Rattle.steps.proofs.Lengths.{length-below, length-then-below}
 use Rattle.rules.specs.Format.{eraseChip, eraseBlock, emptyStripe, formatSteps}
 use Rattle.rules.specs.Blocks.{namedIn, lowestCleanBlock}
 use Rattle.rules.specs.Fetch.{fed}
-use Rattle.rules.specs.Collect.{copyOf, copyFrom, copySteps, copyFeed, victimOf, collectSteps}
+use Rattle.rules.specs.Collect.{copyOf, copyFrom, copySteps, copyFeed, victimOf, collectBlock, collectSteps}
 use Rattle.rules.specs.Place.{placeOf}
 use Rattle.rules.specs.Room.{roomSteps, atPlace, placed}
 use Rattle.rules.specs.Costs.{cheapest}
@@ -83,24 +83,27 @@ module _ (l : Layout) where
       at-most-one (namedIn l r c v i)
       (fed (copyFeed l c s (pageIn l v i)) (λ xs. program c (pageIn l d (countBelow i (namedIn l r c v))) (copyOf l (pageIn l v i) (x (pageIn l v i)) xs)))
 
-  collect-of : (c : ℕ) (s : Images) (victim destination : Found)
-      → length (whenFound victim (λ v. whenFound destination (λ d. andThen l (copySteps l c (pageAt l (s .chips) c) (copyFeed l c s) (recordAt l (s .records)) v d) (finishSteps l) s) []) []) ≤ 2 * K + 4
+  collect-of : (c v : ℕ) (s : Images) (destination : Found)
+      → length (whenFound destination (λ d. andThen l (copySteps l c (pageAt l (s .chips) c) (copyFeed l c s) (recordAt l (s .records)) v d) (finishSteps l) s) []) ≤ 2 * K + 4
   unfolding whenFound andThen copySteps
-  collect-of c s (At v) (At d) =
+  collect-of c v s (At d) =
       let x = pageAt l (s .chips) c in
       let r = recordAt l (s .records) in
       let copies = rw mul-one at (length-below 1 K (copyFrom l c x (copyFeed l c s) r v d) (λ i low. copy-length c v d i s)) in
       let rest = finish-length (applyAll l (copySteps l c x (copyFeed l c s) r v d) s) in
       rw (length-append, length-append) (omega arith)
-  collect-of c s (At v) Nothing = omega arith
-  collect-of c s Nothing destination = omega arith
+  collect-of c v s Nothing = omega arith
 
-  -- a collection: phase 1, each place of the victim, phase 2, and its end
+  -- the collection of a block: phase 1, each of its places, phase 2, and its end
+  block-length : (c v : ℕ) (s : Images) → length (collectBlock l c v s) ≤ 2 * K + 4
+  unfolding collectBlock
+  block-length c v s = collect-of c v s (lowestCleanBlock l (pageAt l (s .chips) c))
+
+  -- and of a chip
   pub collect-length : (c : ℕ) (s : Images) → length (collectSteps l c s) ≤ 2 * K + 4
   unfolding collectSteps
   collect-length c s =
-      let x = pageAt l (s .chips) c in
-      collect-of c s (victimOf l c x (recordAt l (s .records))) (lowestCleanBlock l x)
+      found-length (victimOf l c (pageAt l (s .chips) c) (recordAt l (s .records))) (2 * K + 4) (λ v. collectBlock l c v s) [] (λ v. block-length c v s) (omega arith)
 
   -- a list at a place, with the collection that it may need
   placed-length : (c k : ℕ) (f : ℕ → Images → List Step) (s : Images) → ((p : ℕ) (t : Images) → length (f p t) ≤ k) → length (placed l c f s) ≤ 2 * K + 4 + k

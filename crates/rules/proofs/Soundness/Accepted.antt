@@ -1,17 +1,15 @@
 -- What a call that passes its checks may rely on; and of a read and a write, that nothing more is asked.
 use Prim.Native.Nat.{ℕ, _+_, _*_, _<_}
 use native.Mathlib.Omega.{arith}
-use mathlib.Core.Path.{_≡_, refl, ap, _∙_}
+use mathlib.Core.Path.{_≡_, refl, _∙_}
 use mathlib.Core.Logic.{_≢_}
-use mathlib.Core.Bool.{Bool, true, false}
+use mathlib.Core.Bool.{true}
 use mathlib.Core.List.{List, [], _∷_, _++_}
 use lib.ListN.{length}
-use lib.Dec.{leb, ltb, eqb}
+use lib.Dec.{eqb}
 use borrow.Author.Tests.{ltb-true, leb-true, eqb-true, lt-ltb, eq-eqb}
-use Rattle.ranges.specs.Look.{whenFound}
-use Rattle.ranges.specs.declared.Found.{Found}
 use Rattle.ranges.specs.declared.Found.the-variants.{At}
-use Rattle.ranges.proofs.Looks.{both, when-found}
+use Rattle.ranges.proofs.Looks.{when-found}
 use Rattle.layout.specs.Layout.{Layout, noChip, limits}
 use Rattle.layout.specs.Page.{pageAt}
 use Rattle.layout.specs.Record.{hasSlot, recordAt}
@@ -20,9 +18,9 @@ use Rattle.layout.specs.Images.{Images, lengths}
 use Rattle.layout.proofs.Limits.{Within, limited, within as in-limits}
 use Rattle.rules.specs.Collect.{victimOf}
 use Rattle.rules.specs.declared.Refusal.{Refusal}
-use Rattle.rules.specs.declared.Refusal.the-variants.{Collection, Request, Work}
+use Rattle.rules.specs.declared.Refusal.the-variants.{Collection}
 use Rattle.rules.specs.declared.Check.the-variants.{Passed, Failed}
-use Rattle.rules.specs.Refusals.{Row, checked, lostNamed, atRest, collectableOn, pageRows, chipSetRow, buffersRows, imagesRows, settledRows, readRows, writeRows, commitRows, collectRows}
+use Rattle.rules.specs.Refusals.{Row, checked, lostNamed, atRest, pageRows, chipSetRow, buffersRows, imagesRows, settledRows, readRows, writeRows, commitRows, collectRows}
 use Rattle.rules.proofs.Soundness.Statements.{SoundBut, Sound}
 use Rattle.rules.proofs.Soundness.Table.{by-check, AllPass, rows-passed, rows-pass, below-passed, both-passed}
 use Rattle.rules.proofs.Soundness.Checks.{images-sound, lengths-pass, records-check-pass, spares-check-pass}

@@ -7,14 +7,14 @@ use lib.ListN.{length}
 use lib.Dec.{eqb}
 use borrow.Author.Tests.{eqb-true, eq-eqb}
 use Rattle.ranges.proofs.Looks.{all-true, all-at}
-use Rattle.ranges.proofs.Tests.{chain-all, unless-equal, unless-equal-by, or-else, or-by}
+use Rattle.ranges.proofs.Tests.{chain-all, or-else, or-by}
 use Rattle.layout.specs.Layout.{Layout}
 use Rattle.layout.specs.Page.{pageAt}
 use Rattle.layout.specs.Record.{recordAt}
 use Rattle.layout.specs.Collection.{collectionAt}
 use Rattle.layout.specs.Images.{Images, lengths, chipsLength, recordsLength, slotsLength}
 use Rattle.rules.specs.Sound.{chipSound, sparesSound, soundOrExempt}
-use Rattle.rules.specs.Refusals.{recordsCheck, sparesCheck}
+use Rattle.rules.specs.Refusals.{recordsCheck}
 use Rattle.rules.proofs.Soundness.Statements.{SoundBut}
 use Rattle.rules.proofs.Soundness.RecordChecks.{records-sound, records-pass}
 use Rattle.rules.proofs.Soundness.ChipChecks.{chip-sound, chip-pass}

@@ -3,22 +3,21 @@ use Prim.Native.Nat.{ℕ, zero, suc, _+_, _*_, _≤_, _<_}
 use native.Mathlib.Nat.{add-zero, add-suc, zero-mul, suc-mul}
 use native.Mathlib.Decide.{ℕ-discrete}
 use native.Mathlib.Omega.{arith}
-use mathlib.Core.Path.{_≡_, refl, sym, ap, _∙_}
-use mathlib.Core.Logic.{_≢_}
+use mathlib.Core.Path.{_≡_, sym}
 use mathlib.Core.Bool.{Bool, true, false}
 use borrow.Author.Tests.{eq-eqb, ne-eqb, not-true}
 use Rattle.ranges.specs.declared.Found.the-variants.{At, Nothing}
 use Rattle.ranges.specs.Look.{countBelow, sumBelow}
 use Rattle.ranges.proofs.Looks.{by-found, all-at}
 use Rattle.ranges.proofs.Counts.{count-le, count-start, count-all, count-positive, count-zero}
-use Rattle.ranges.proofs.Tallies.{ones, count-more}
+use Rattle.ranges.proofs.Tallies.{count-more}
 use Rattle.ranges.proofs.Sums.{sum-start, sum-more, sum-at, sum-beyond, but, sum-but}
-use Rattle.layout.specs.Layout.{Layout, pages, pageIn}
+use Rattle.layout.specs.Layout.{Layout, pages}
 use Rattle.layout.specs.Page.{Page, clean}
 use Rattle.layout.specs.Record.{Record}
 use Rattle.layout.specs.Collection.{Collection}
 use Rattle.layout.proofs.Limits.{Within}
-use Rattle.rules.specs.Blocks.{cleanIn, usedIn, cleanBlock, fullBlock}
+use Rattle.rules.specs.Blocks.{cleanIn, usedIn, fullBlock}
 use Rattle.rules.specs.Sound.{collecting}
 use Rattle.rules.specs.Place.{placeOf}
 use Rattle.rules.proofs.Soundness.Statements.{ChipSound}

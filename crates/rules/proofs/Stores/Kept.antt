@@ -14,11 +14,11 @@ use Rattle.layout.specs.Images.{Images, slotAt}
 use Rattle.rules.specs.Names.{mainNumber, sideNumber}
 use Rattle.rules.specs.Blocks.{namedIn, unnamedIn}
 use Rattle.rules.specs.Sound.{twinIn}
-use Rattle.rules.specs.Gather.{bytesAt}
+use Rattle.rules.specs.Fetch.{itself}
 use Rattle.rules.proofs.Soundness.Statements.{Sound}
 
 module _ (l : Layout) where
-  open Layout l using (N, K, B, S)
+  open Layout l using (N, K, S)
 
   -- In phase 2, with the pages x of the collection's chip: a copy that is due holds the bytes of its original, and the copies
   -- stand in the order of the originals.
@@ -38,7 +38,7 @@ module _ (l : Layout) where
   -- number a′ on chip c names, among the pages y′, what number a named among the pages y
   pub record Same (y y′ : ℕ → ℕ → Page) (c a a′ : ℕ) : Type 0 where
     pub none-too : isNone l a′ ≡ isNone l a
-    pub bytes : bytesAt l y′ c a′ ≡ bytesAt l y c a
+    pub bytes : itself l y′ c a′ .bytes ≡ itself l y c a .bytes
 
   -- t holds what s holds
   pub record Kept (s t : Images) : Type 0 where
@@ -64,7 +64,7 @@ module _ (l : Layout) where
   same-trans y y′ y″ c a a′ a″ g h = record { none-too = h .none-too ∙ g .none-too; bytes = h .bytes ∙ g .bytes }
 
   pub same-page : (y y′ : ℕ → ℕ → Page) (c a : ℕ) → (a ≢ none l → y′ c a ≡ y c a) → Same y y′ c a a
-  unfolding bytesAt
+  unfolding itself
   same-page y y′ c a h = record {
     none-too = refl;
     bytes = by-test (isNone l a) (λ t. rw t) (λ t. rw t (ap (λ (x : Page). x .bytes) (h (eqb-false a (none l) t))));

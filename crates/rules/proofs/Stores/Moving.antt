@@ -20,7 +20,7 @@ use Rattle.rules.specs.Names.{mainNumber, sideNumber, names, named}
 use Rattle.rules.specs.Blocks.{namedIn, unnamedIn}
 use Rattle.rules.specs.Sound.{twin, twinIn, collecting}
 use Rattle.rules.specs.Open.{moved, repointed, due}
-use Rattle.rules.specs.Gather.{bytesAt}
+use Rattle.rules.specs.Fetch.{itself}
 use Rattle.rules.proofs.Soundness.Statements.{RecordSound, RecordsSound, Stamped, IsTwin, OneTwin, ChipSound}
 use Rattle.rules.proofs.Stores.Kept.{Copies, Same, same-number}
 use Rattle.rules.proofs.Stores.Names.{by-name, main-names, side-names, not-names, named-by, name-named, unnamed-at, named-none, name-stamped, one-stripe}
@@ -290,8 +290,8 @@ module _ (l : Layout) (r : ℕ → Record) (x : ℕ → Page) (co : Collection) 
         copies .bytes busy (original-place .0) k (original-place .1) fits original-named original-twin ∙ sym (ap (λ (a : ℕ). x a .bytes) (original-place .2))
 
     module _ (y : ℕ → ℕ → Page) (pages-of : y c ≡ x) where
-      moved-bytes : (n : ℕ) → bytesAt l y c (moved p q n) ≡ bytesAt l y c n
-      unfolding bytesAt
+      moved-bytes : (n : ℕ) → itself l y c (moved p q n) .bytes ≡ itself l y c n .bytes
+      unfolding itself
       moved-bytes n = by-moved p q n
           (λ e m. rw (m, e, ne-eqb q (none l) copy-page, ne-eqb p (none l) original-page, pages-of) same-bytes)
           (λ _ m. rw m)

@@ -24,9 +24,6 @@ abbrev μ-loop : tie.MeasureT-loop
 abbrev isClean : tie.Start Inv-loop μ-loop → ℕ → Bool
 isClean s = let l = layoutOf (s .args .g) in cleanBlock l (pageAt l (s .args .chips .now) (s .args .c))
 
-mul-is-clean : tie.Need-mul-is-clean Inv-loop μ-loop
-mul-is-clean c = omega (arith, first-page (c .before .before .before .pre) (c .before .loop .b) (c .loop-test .taken))
-
 is-clean-requires : tie.Need-is-clean-requires Inv-loop μ-loop
 is-clean-requires c κs =
     let h = c .before .before .before .pre in (h .chips-fit, h .chip, first-page h (c .before .loop .b) (c .loop-test .taken) .0)
@@ -55,14 +52,6 @@ returns-2 c =
 pub clean-block-on-spec : {M : Type 1} → statement M
 clean-block-on-spec =
     tie.close
-    (tie.spec
-    Inv-loop
-    μ-loop
-    (λ c. (omega arith, first-start (isClean (c .before))))
-    mul-is-clean
-    is-clean-requires
-    returns
-    (λ c. omega arith)
-    (λ c. omega arith)
-    loop-again
-    returns-2)
+    (tie.spec Inv-loop μ-loop (λ c. (omega arith, first-start (isClean (c .before))))
+    (λ c. omega (arith, first-page (c .before .before .before .pre) (c .before .loop .b) (c .loop-test .taken))) is-clean-requires returns
+    (λ c. omega arith) (λ c. omega arith) loop-again returns-2)

@@ -51,12 +51,6 @@ place c =
     let o = c .before .before .before .before .before .before .before in
     place-low (start c .args .g) (start c .pre .chips-fit .limited) (o .search .b) (c .before .loop .i) (c .before .before .before .before .before .before .search-test .taken) (c .loop-test .taken)
 
-is-clean-requires : tie.Need-is-clean-requires Inv-loop μ-loop Inv-search μ-search
-is-clean-requires c κs = let h = c .before .before .before .pre in (h .chips-fit, h .chip, first c .0)
-
-is-clean-requires-2 : tie.Need-is-clean-requires-2 Inv-loop μ-loop Inv-search μ-search
-is-clean-requires-2 c κs = let h = c .before .before .before .before .before .pre in (h .chips-fit, h .chip, last (c .before .before) .0)
-
 loop-holds : tie.Need-loop-holds Inv-loop μ-loop Inv-search μ-search
 loop-holds c =
     let o = c .before .before .before .before .before in
@@ -64,9 +58,6 @@ loop-holds c =
     let l = layoutOf (s .args .g) in
     let used = sym (c .before .before .before .is-clean .ensures) ∙ c .before .before .if1 .left in
     (some-places (s .pre), begun-inside l (pageAt l (s .args .chips .now) (s .args .c)) (o .search .b) used)
-
-is-clean-requires-3 : tie.Need-is-clean-requires-3 Inv-loop μ-loop Inv-search μ-search
-is-clean-requires-3 c κs = let h = start c .pre in (h .chips-fit, h .chip, place c .0)
 
 loop-again : tie.Need-loop-again Inv-loop μ-loop Inv-search μ-search
 loop-again c =
@@ -109,39 +100,19 @@ answered c =
     (w .6 .taken) (w .5 .inv .1) (sym (w .7 .ensures) ∙ w .8 .taken))
     (c .search-test .came)
 
-returns : tie.Need-returns Inv-loop μ-loop Inv-search μ-search
-returns c = answered (c .before .before .before) .begun (c .before .found .given .0 .0) (c .before .found .given .1)
-
 returns-2 : tie.Need-returns-2 Inv-loop μ-loop Inv-search μ-search
 returns-2 c = answered (c .before .before .before) .fresh (c .before .enum-told .given .1) (c .if5 .taken)
 
 pub place-on-spec : {M : Type 1} → statement M
 place-on-spec =
     tie.close
-    (tie.spec
-    Inv-loop
-    μ-loop
-    Inv-search
-    μ-search
-    (λ c. (omega arith, search-start))
-    (λ c. omega (arith, first c))
-    is-clean-requires
-    (λ c. omega (arith, search-few (c .before .before .before .before .search .inv .1)))
-    (λ c. omega (arith, last (c .before .before)))
+    (tie.spec Inv-loop μ-loop Inv-search μ-search (λ c. (omega arith, search-start)) (λ c. omega (arith, first c))
+    (λ c κs. let h = c .before .before .before .pre in (h .chips-fit, h .chip, first c .0))
+    (λ c. omega (arith, search-few (c .before .before .before .before .search .inv .1))) (λ c. omega (arith, last (c .before .before)))
     (λ c. omega (arith, some-places (c .before .before .before .before .before .pre)))
-    is-clean-requires-2
-    loop-holds
-    (λ c. omega (arith, place c))
-    is-clean-requires-3
-    (λ c. omega (arith, place (c .before .before)))
-    (λ c. omega (arith, place (c .before .before)))
-    (λ c. omega arith)
-    loop-again
-    (λ c. omega arith)
-    (λ c. omega arith)
-    search-again
-    (λ c. search needs)
-    (λ c. search needs)
-    returns
-    returns-2
+    (λ c κs. let h = c .before .before .before .before .before .pre in (h .chips-fit, h .chip, last (c .before .before) .0)) loop-holds
+    (λ c. omega (arith, place c)) (λ c κs. let h = start c .pre in (h .chips-fit, h .chip, place c .0))
+    (λ c. omega (arith, place (c .before .before))) (λ c. omega (arith, place (c .before .before))) (λ c. omega arith) loop-again
+    (λ c. omega arith) (λ c. omega arith) search-again (λ c. search needs) (λ c. search needs)
+    (λ c. answered (c .before .before .before) .begun (c .before .found .given .0 .0) (c .before .found .given .1)) returns-2
     (λ c. answered (c .before .before .before) .nowhere (c .before .enum-told .given .1) (c .if5 .left)))

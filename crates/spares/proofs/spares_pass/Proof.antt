@@ -6,7 +6,7 @@ use mathlib.Core.Path.{_≡_, _∙_}
 use mathlib.Core.Logic.{⊎-elim}
 use mathlib.Core.Bool.{Bool, true, _&&_, _||_}
 use lib.Dec.{eqb}
-use borrow.Author.Tests.{eq-eqb, ne-eqb, le-leb, lt-leb}
+use borrow.Author.Tests.{eq-eqb, ne-eqb}
 use Rattle.ranges.proofs.Tests.{one-fails, none-fails}
 use Rattle.layout.specs.Layout.{layoutOf}
 use Rattle.layout.specs.Page.{pageAt}
@@ -17,7 +17,7 @@ use Rattle.rules.specs.Sound.{isLost, sparesSound}
 use Rattle.spares.specs.Phases.{phaseSound}
 use Rattle.codec.proofs.Fetching.{start-low}
 use Rattle.spares.proofs.Scanning.{scans-at}
-use Rattle.spares.proofs.Judging.{Judged, judge-start, judge-more, judge-lost, judge-few, statements, verdict, stamps-pass}
+use Rattle.spares.proofs.Judging.{Judged, judge-start, judge-more, judge-lost, judge-few, verdict, stamps-pass}
 use Rattle.spares.proofs.spares_pass.Statement.{statement}
 use Rattle.spares.proofs.spares_pass.Tie as tie
 

@@ -8,10 +8,6 @@ use Rattle.vazhettu.proofs.read_report_of.Tie as tie
 pub read-report-of-spec : {M : Type 1} → statement M
 read-report-of-spec =
     tie.close
-    (tie.spec
-    (λ c. search needs)
-    (λ c κs. search needs)
-    (λ c. search needs)
-    (λ c κs. search needs)
+    (tie.spec (λ c. search needs) (λ c κs. search needs) (λ c. search needs) (λ c κs. search needs)
     (λ c. c .with-counts .ensures ∙ sym (ap readReported (c .before .before .a .given .1)))
     (λ c. c .without-counts .ensures ∙ sym (ap readReported (c .before .before .a2 .given .1))))

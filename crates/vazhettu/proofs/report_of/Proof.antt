@@ -11,13 +11,6 @@ returns-2 c = c .with-counts2 .ensures ∙ sym (ap reported (c .before .before .
 pub report-of-spec : {M : Type 1} → statement M
 report-of-spec =
     tie.close
-    (tie.spec
-    (λ c. search needs)
-    (λ c κs. search needs)
-    (λ c. search needs)
-    (λ c κs. search needs)
-    (λ c. search needs)
-    (λ c κs. search needs)
-    (λ c. c .with-counts .ensures ∙ sym (ap reported (c .before .before .a .given .1)))
-    returns-2
+    (tie.spec (λ c. search needs) (λ c κs. search needs) (λ c. search needs) (λ c κs. search needs) (λ c. search needs) (λ c κs. search needs)
+    (λ c. c .with-counts .ensures ∙ sym (ap reported (c .before .before .a .given .1))) returns-2
     (λ c. c .without-counts .ensures ∙ sym (ap reported (c .before .before .a3 .given .1))))

@@ -9,5 +9,4 @@ returns : tie.Need-returns
 returns c = rw (c .report-of .ensures) (ap reportedOf (c .before .before .before .before .before .commit .ensures))
 
 pub vazhettu-commit-spec : {M : Type 1} → statement M
-vazhettu-commit-spec =
-    tie.close (tie.spec (λ c κs. search needs) (λ c κs. search needs) (λ c. search needs) (λ c. search needs) returns)
+vazhettu-commit-spec = tie.close (tie.spec (λ c κs. search needs) (λ c κs. search needs) (λ c. search needs) (λ c. search needs) returns)

@@ -9,5 +9,4 @@ returns : tie.Need-returns
 returns c = rw (c .report-of .ensures) (ap reportedOf (c .before .before .before .before .before .format .ensures))
 
 pub vazhettu-format-spec : {M : Type 1} → statement M
-vazhettu-format-spec =
-    tie.close (tie.spec (λ c κs. search needs) (λ c κs. search needs) (λ c. search needs) (λ c. search needs) returns)
+vazhettu-format-spec = tie.close (tie.spec (λ c κs. search needs) (λ c κs. search needs) (λ c. search needs) (λ c. search needs) returns)

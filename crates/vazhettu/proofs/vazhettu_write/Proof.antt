@@ -10,5 +10,4 @@ returns c = rw (c .report-of .ensures) (ap reportedOf (c .before .before .before
 
 pub vazhettu-write-spec : {M : Type 1} → statement M
 vazhettu-write-spec =
-    tie.close
-    (tie.spec (λ c κs. search needs) (λ c κs. search needs) (λ c. search needs) (λ c. search needs) (λ c. search needs) returns)
+    tie.close (tie.spec (λ c κs. search needs) (λ c κs. search needs) (λ c. search needs) (λ c. search needs) (λ c. search needs) returns)

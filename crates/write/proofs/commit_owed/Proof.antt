@@ -21,11 +21,11 @@ known : (s : tie.Start)
     → let l = layoutOf (s .args .g) in
     let r = recordAt l (now (s .args .records)) in
     (s .args .seen .cheapest ≡ cheapest l r) × (s .args .seen .free ≡ lowestFreeSlot l r)
-known s = (ap (λ (x : SlotScan). x .cheapest) (s .pre .5), ap (λ (x : SlotScan). x .free) (s .pre .5))
+known s = (ap (λ (x : SlotScan). x .cheapest) (s .pre .6), ap (λ (x : SlotScan). x .free) (s .pre .6))
 
 -- what the function was called with, before the match
 abbrev start : tie.After-cheapest → tie.Start
-start c = c .before .before .before .before .before
+start c = c .before .before .before .before .before .before
 
 -- the stripe that is found is the cheapest
 found : (c : tie.After-cheapest)
@@ -45,31 +45,31 @@ slot-at-requires c κs = let k = c .before .before in (start k .pre .0 .checked 
 
 commit-stripe-requires : tie.Need-commit-stripe-requires
 commit-stripe-requires c κs =
-    let k = c .before .before .before .before .before in
+    let k = c .before .before .before .before .before .before in
     let h = start k .pre in
-    (h .0, h .1, has k .0, h .2, has k .1, h .4)
+    (h .0, h .1, h .2, has k .0, h .3, has k .1, h .5 _ (k .cheapest .given .1))
 
 returns : tie.Need-returns
 returns c =
-    let committed = c .before .before .before .before .before in
-    let slot = committed .before .before .before in
+    let committed = c .before .before .before .before .before .before .before in
+    let slot = committed .before .before .before .before in
     let k = slot .before .before .before in
     let s = start k in
     let a = s .args in
     let l = layoutOf (a .g) in
     let v = images (now (a .chips)) (now (a .records)) (now (a .slots)) in (
-      rw (owed-commits l (a .j) v (s .pre .3) (found k)) (committed .commit-stripe .ensures),
+      rw (owed-commits l (a .j) v (s .pre .4) (found k)) (committed .commit-stripe .ensures),
       λ going. rw (c .lower .ensures, known s .1, slot .slot-at .ensures .0)
           (sym (commit-lowers (s .pre .0) (s .pre .1) (has k .0) (has k .1) (committed .commit-stripe .ensures) going)),
     )
 
 returns-2 : tie.Need-returns-2
 returns-2 c =
-    let s = c .before .before .before .before .before in
+    let s = c .before .before .before .before .before .before in
     let a = s .args in
     let l = layoutOf (a .g) in
     let v = images (now (a .chips)) (now (a .records)) (now (a .slots)) in (
-      rw (owed-nothing l (a .j) v (s .pre .3) (sym (known s .0) ∙ c .enum-told .given .1)) (ran-none l (a .p) v (s .pre .2)),
+      rw (owed-nothing l (a .j) v (s .pre .4) (sym (known s .0) ∙ c .enum-told .given .1)) (ran-none l (a .p) v (s .pre .3)),
       λ going. known s .1,
     )
 
@@ -81,6 +81,7 @@ commit-owed-spec =
     slot-at-requires
     commit-stripe-requires
     (λ c κs. search needs)
+    (λ c. search needs)
     (λ c. search needs)
     (λ c. search needs)
     (λ c. search needs)

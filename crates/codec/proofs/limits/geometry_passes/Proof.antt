@@ -52,5 +52,5 @@ returns-3 c =
 pub geometry-passes-spec : {M : Type 1} → statement M
 geometry-passes-spec =
     tie.close
-    (tie.spec
-    returns (λ c. omega (arith, small (first c) (sized c))) returns-2 (λ c. omega (arith, few (second c) (counted c))) (λ c. omega (arith, few (second c) (counted c))) sub-result mul-result returns-3)
+    (tie.spec returns (λ c. omega (arith, small (first c) (sized c))) returns-2 (λ c. omega (arith, few (second c) (counted c)))
+    (λ c. omega (arith, few (second c) (counted c))) sub-result mul-result returns-3)

@@ -16,7 +16,6 @@ returns c = refl
 pub lengths-pass-spec : {M : Type 1} → statement M
 lengths-pass-spec =
     tie.close
-    (tie.spec
-    (λ c. omega (arith, small c)) (λ c. omega (arith, small c)) (λ c. omega (arith, small c)) (λ c. omega (arith, small c))
+    (tie.spec (λ c. omega (arith, small c)) (λ c. omega (arith, small c)) (λ c. omega (arith, small c)) (λ c. omega (arith, small c))
     (λ c. omega (arith, small c)) (λ c. omega (arith, small c)) (λ c. omega (arith, small c)) (λ c. omega (arith, small c))
     (λ c. omega (arith, small c)) returns)

@@ -19,5 +19,5 @@ loop-again c = digits-more (c .before .loop .inv) (omega arith)
 pub fill-number-spec : {M : Type 1} → statement M
 fill-number-spec =
     tie.close
-    (tie.spec Inv-loop μ-loop (λ c. digits-none (c .args .x) (c .args .dst .now)) (λ c. search needs) (λ c. search needs) (λ c. search needs) (λ c. search needs)
-    loop-again (λ c. c .before .loop .inv .stored .same) (λ c. stored-all (c .before .loop .inv .stored) (omega arith)))
+    (tie.spec Inv-loop μ-loop (λ c. digits-none (c .args .x) (c .args .dst .now)) (λ c. search needs) (λ c. search needs) (λ c. search needs)
+    (λ c. search needs) loop-again (λ c. c .before .loop .inv .stored .same) (λ c. stored-all (c .before .loop .inv .stored) (omega arith)))

@@ -21,7 +21,7 @@ returns c =
 pub put-clean-block-spec : {M : Type 1} → statement M
 put-clean-block-spec =
     tie.close
-    (tie.spec (λ c. omega (arith, block (c .before))) (λ c κs. (c .before .pre .0 .limited, c .before .pre .1, block (c .before) .first)) (λ c. search needs)
-    (λ c. omega (arith, block (c .before .before), c .page-offset .ensures .0)) (λ c. omega (arith, block (c .before .before), c .page-offset .ensures .0))
-    (λ c. search needs) (λ c. search needs) (λ c. omega (arith, block (c .before .before), c .page-offset .ensures .0))
-    (λ c κs. search needs) (λ c. search needs) returns)
+    (tie.spec (λ c. omega (arith, block (c .before))) (λ c κs. (c .before .pre .0 .limited, c .before .pre .1, block (c .before) .first))
+    (λ c. search needs) (λ c. omega (arith, block (c .before .before), c .page-offset .ensures .0))
+    (λ c. omega (arith, block (c .before .before), c .page-offset .ensures .0)) (λ c. search needs) (λ c. search needs)
+    (λ c. omega (arith, block (c .before .before), c .page-offset .ensures .0)) (λ c κs. search needs) (λ c. search needs) returns)

@@ -22,5 +22,5 @@ returns c =
 pub put-clean-blocks-spec : {M : Type 1} → statement M
 put-clean-blocks-spec =
     tie.close
-    (tie.spec (λ c. omega (arith, blocks (c .before))) (λ c. omega (arith, blocks (c .before))) (λ c. omega (arith, blocks (c .before))) (λ c. search needs)
-    (λ c. search needs) (λ c. omega (arith, blocks (c .before))) (λ c κs. search needs) (λ c. search needs) returns)
+    (tie.spec (λ c. omega (arith, blocks (c .before))) (λ c. omega (arith, blocks (c .before))) (λ c. omega (arith, blocks (c .before)))
+    (λ c. search needs) (λ c. search needs) (λ c. omega (arith, blocks (c .before))) (λ c κs. search needs) (λ c. search needs) returns)

@@ -38,5 +38,6 @@ returns c =
 pub put-empty-records-spec : {M : Type 1} → statement M
 put-empty-records-spec =
     tie.close
-    (tie.spec Inv-loop μ-loop (λ c. firsts-none 32 (c .before .args .n) _ (c .before .args .records .now)) (λ c. omega (arith, fits c)) (λ c. omega (arith, fits c)) (λ c. search needs) (λ c. search needs) (λ c. omega (arith, fits c))
-    (λ c. search needs) (λ c κs. search needs) (λ c. search needs) (λ c. search needs) loop-again (λ c. c .before .loop .inv .same) returns)
+    (tie.spec Inv-loop μ-loop (λ c. firsts-none 32 (c .before .args .n) _ (c .before .args .records .now)) (λ c. omega (arith, fits c))
+    (λ c. omega (arith, fits c)) (λ c. search needs) (λ c. search needs) (λ c. omega (arith, fits c)) (λ c. search needs) (λ c κs. search needs)
+    (λ c. search needs) (λ c. search needs) loop-again (λ c. c .before .loop .inv .same) returns)

@@ -25,5 +25,6 @@ returns c =
 pub put-six-spec : {M : Type 1} → statement M
 put-six-spec =
     tie.close
-    (tie.spec Inv-loop μ-loop (λ c. (omega arith, numbers-none (c .before .args .a) 2 _ (c .before .args .dst .now))) (λ c. search needs) (λ c. search needs) (λ c. search needs) (λ c. search needs)
-    (λ c κs. search needs) (λ c. search needs) (λ c. search needs) loop-again (λ c. c .before .loop .inv .1 .same) returns)
+    (tie.spec Inv-loop μ-loop (λ c. (omega arith, numbers-none (c .before .args .a) 2 _ (c .before .args .dst .now))) (λ c. search needs)
+    (λ c. search needs) (λ c. search needs) (λ c. search needs) (λ c κs. search needs) (λ c. search needs) (λ c. search needs) loop-again
+    (λ c. c .before .loop .inv .1 .same) returns)

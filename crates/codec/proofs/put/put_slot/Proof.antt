@@ -20,5 +20,5 @@ returns c = rw (c .before .before .copy .ensures, add-sub-cancel-left)
 pub put-slot-spec : {M : Type 1} → statement M
 put-slot-spec =
     tie.close
-    (tie.spec (λ c. omega (arith, fits (c .before .before))) (λ c. omega (arith, fits (c .before .before))) (λ c. search needs) (λ c. search needs)
-    (λ c. omega (arith, fits (c .before .before))) (λ c κs. search needs) (λ c. search needs) returns)
+    (tie.spec (λ c. omega (arith, fits (c .before .before))) (λ c. omega (arith, fits (c .before .before))) (λ c. search needs)
+    (λ c. search needs) (λ c. omega (arith, fits (c .before .before))) (λ c κs. search needs) (λ c. search needs) returns)

@@ -11,18 +11,16 @@ use Rattle.spares.proofs.block.fields_by_width.Statement.{statement}
 use Rattle.spares.proofs.block.fields_by_width.Tie as tie
 
 abbrev Inv-loop : tie.InvT-loop
-Inv-loop g width c tags stripes fields₀ k chip i₀ fields i =
-    (i ≤ k) × (length fields ≡ 128)
+Inv-loop g width c count tags stripes fields₀ chip i₀ fields i =
+    (i ≤ count) × (length fields ≡ 128)
     × Filled (λ m f. f ≡ fieldOf (layoutOf g) c (getD tags m 0) (getD stripes m 0)) fields i
 
 abbrev μ-loop : tie.MeasureT-loop
-μ-loop g width c tags stripes fields₀ k chip i₀ fields i = k - i
+μ-loop g width c count tags stripes fields₀ chip i₀ fields i = count - i
 
--- a place of the block is one of at most 128
+-- a page is one of at most 128
 places : (c : tie.In-loop Inv-loop μ-loop) → c .before .loop .i < 128
-places c =
-    let s = c .before .before in
-    omega (arith, within (layoutOf (s .args .g)) (s .pre .0) .places-high)
+places c = omega (arith, c .before .before .pre .3)
 
 cast-chip : tie.Need-cast-chip Inv-loop μ-loop
 cast-chip c =
@@ -40,7 +38,7 @@ loop-again c =
 
 returns : tie.Need-returns Inv-loop μ-loop
 returns c =
-    let all : c .before .loop .i ≡ c .before .before .args .g .k = omega arith in
+    let all : c .before .loop .i ≡ c .before .before .args .count = omega arith in
     (record { is = λ i h. c .before .loop .inv .2 .at i (rw all h) }, c .before .loop .inv .1)
 
 pub fields-by-width-spec : {M : Type 1} → statement M
@@ -50,7 +48,7 @@ fields-by-width-spec =
     Inv-loop
     μ-loop
     cast-chip
-    (λ c. (omega arith, c .pre .3, fill-start))
+    (λ c. (omega arith, c .pre .4, fill-start))
     (λ c. omega (arith, places c))
     (λ c. places c)
     (λ c. omega (arith, places (c .before)))

@@ -16,7 +16,7 @@ fields-by-width-requires-5 c κs =
     let n = within (layoutOf (s .args .g)) (s .pre .0) in
     let d = c .before .match .rest in
     let six : s .args .g .n ≡ 6 = omega (arith, n .members-low, n .members-high, d .1, d .0 .1, d .0 .0 .1, d .0 .0 .0 .1) in
-    (s .pre .0, omega arith, s .pre .1, s .pre .2)
+    (s .pre .0, omega arith, s .pre .1, s .pre .2, s .pre .3)
 
 pub fields-of-spec : {M : Type 1} → statement M
 fields-of-spec =

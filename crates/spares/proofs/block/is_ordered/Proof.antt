@@ -1,6 +1,6 @@
 -- The loop's invariant: the places below i are in order by their tags.
 use borrow.Author.Needs.{needs}
-use Prim.Native.Nat.{_-_, _≤_, _<_}
+use Prim.Native.Nat.{_+_, _-_, _≤_, _<_}
 use native.Mathlib.Numerals.{add-one}
 use native.Mathlib.Omega.{arith}
 use mathlib.Core.Path.{_≡_, refl, _∙_}
@@ -12,16 +12,14 @@ use Rattle.spares.proofs.block.is_ordered.Statement.{statement}
 use Rattle.spares.proofs.block.is_ordered.Tie as tie
 
 abbrev Inv-loop : tie.InvT-loop
-Inv-loop tags last ordered₀ i₀ ordered i = (i ≤ last) × (ordered ≡ allBelow i (orderTag tags))
+Inv-loop o tags last ordered₀ i₀ ordered i = (i ≤ last) × (ordered ≡ allBelow i (orderTag tags o))
 
 abbrev μ-loop : tie.MeasureT-loop
-μ-loop tags last ordered₀ i₀ ordered i = last - i
+μ-loop o tags last ordered₀ i₀ ordered i = last - i
 
 -- a place but the last is one of at most 127
-places : (c : tie.In-loop Inv-loop μ-loop) → c .before .loop .i < 127
-places c =
-    let s = c .before .before in
-    omega (arith, within (layoutOf (s .args .g)) (s .pre) .places-high)
+places : (c : tie.In-loop Inv-loop μ-loop) → c .before .before .args .o + c .before .loop .i < 127
+places c = omega (arith, c .before .before .pre .1)
 
 loop-holds : tie.Need-loop-holds Inv-loop μ-loop
 unfolding allBelow
@@ -32,9 +30,9 @@ unfolding allBelow
 loop-again c = (omega arith, rw (add-one, c .before .before .before .before .before .loop .inv .1, c .before .before .is-clean-tag .ensures, c .is-clean-tag2 .ensures))
 
 returns : tie.Need-returns Inv-loop μ-loop
-returns c x b stripes f =
+returns c x b first stripes here f =
     let last : c .before .loop .i ≡ c .before .before .args .g .k - 1 = omega arith in
-    c .before .loop .inv .1 ∙ rw last (order-tags f)
+    c .before .loop .inv .1 ∙ rw last (order-tags (layoutOf (c .before .before .args .g)) b (c .before .before .args .o) first here f)
 
 pub is-ordered-spec : {M : Type 1} → statement M
 is-ordered-spec =
@@ -42,16 +40,17 @@ is-ordered-spec =
     (tie.spec
     Inv-loop
     μ-loop
-    (λ c. omega (arith, within (layoutOf (c .args .g)) (c .pre) .places-low))
+    (λ c. omega (arith, within (layoutOf (c .args .g)) (c .pre .0) .places-low))
     loop-holds
     (λ c. omega (arith, places c))
     (λ c. omega (arith, places c))
+    (λ c. omega (arith, places c))
+    (λ c. omega (arith, places c))
     (λ c κs. search needs)
     (λ c. omega (arith, places (c .before .before)))
     (λ c. omega (arith, places (c .before .before)))
     (λ c. omega (arith, places (c .before .before)))
     (λ c κs. search needs)
-    (λ c. omega (arith, places (c .before .before .before .before)))
     (λ c. omega arith)
     loop-again
     returns)

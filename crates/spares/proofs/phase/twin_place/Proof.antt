@@ -1,10 +1,10 @@
 -- The page that q is copied from is a page of the victim, or q is no twin.
-use Prim.Native.Nat.{_+_, _*_, _≤_, _<_}
+use Prim.Native.Nat.{_+_, _*_}
 use mathlib.Core.Path.{sym}
 use Rattle.layout.proofs.Limits.{within}
 use native.Mathlib.Omega.{arith}
 use borrow.Author.Needs.{needs}
-use Rattle.layout.specs.Layout.{layoutOf, pages}
+use Rattle.layout.specs.Layout.{layoutOf}
 use Rattle.bytes.proofs.Units.{apart}
 use Rattle.codec.proofs.Fetching.{start-low}
 use Rattle.spares.proofs.Twins.{between, twin-outside, twin-found, twin-missed}
