@@ -21,7 +21,7 @@ ghost use Rattle.layout.specs.Layout.{layoutOf, limits, pages};
 ghost use Rattle.layout.specs.Page.{pageAt};
 ghost use Rattle.layout.specs.Record.{recordAt};
 ghost use Rattle.codec.specs.Fit.{ChipsFit, RecordsFit};
-ghost use Rattle.codec.specs.Scan.{TagIs, tagOf, cleanTag, StampsOf, lastNumber, numberOf, Ranges, WordAt, writtenIn, Glanced};
+ghost use Rattle.codec.specs.Scan.{TagIs, tagOf, cleanTag, StampsOf, lastNumber, numberOf, Ranges, WordAt, writtenIn, Plain, Glanced};
 
 // The numbers of a record by their index: from 0 on the current pages, then the old ones, then the parity page. No index stands for no
 // number.
@@ -154,24 +154,49 @@ fn all_written(records: &[u8], a: usize, tops: &[u16; 8]) -> bool
     written
 }
 
-// Most records have nothing in the partial parity. A short look may tell that a record is such a one; where it does not, nothing is
-// said of it.
+// A record behind its first eight numbers.
+struct Tail {
+    // the last four old numbers
+    olds: usize,
+    // the parity page's number, and what follows it
+    last: usize,
+}
+
+// The tail of the record at offset a.
+fn tail_at(records: &[u8], a: usize) -> Tail
+    requires { ⌜ a + 32 ≤ length (now records) ⌝ }
+    ensures { λ r. ⌜ WordAt (now (records .entry)) (a + 16) (r .olds) × WordAt (now (records .entry)) (a + 24) (r .last) ⌝ }
+{
+    Tail {
+        olds: word_at(records, a + NINTH_AT),
+        last: word_at(records, a + PARITY_AT),
+    }
+}
+
+// Most stripes are full: all members are written, the parity page is there, and nothing is in the partial parity. Where a short look finds
+// stripe j so, its record has one page number for each chip.
+pub fn is_full(records: &[u8], g: Geometry, j: usize, tops: &[u16; 8]) -> bool
+    requires { ⌜ RecordsFit g (now records) × (j < g .s) × Ranges (g .n) (g .b * g .k) (now tops) ⌝ }
+    ensures { λ r. ⌜ (r ≡ true → Plain (layoutOf g) (recordAt (layoutOf g) (now (records .entry)) j) (g .n + 1)) ⌝ }
+{
+    let a = j * RECORD_BYTES;
+    let pages = (g.b * g.k) as usize;
+    let tail = tail_at(records, a);
+    (tail.olds == NO_OLDS)
+        & (tail.last / 65536 == NO_PARTIAL)
+        & (tail.last % 65536 < pages)
+        & all_written(records, a, tops)
+}
+
+// A longer look may tell that a record has nothing in the partial parity; where it does not, nothing is said of it.
 pub fn glance_at(records: &[u8], g: Geometry, j: usize, tops: &[u16; 8]) -> Glance
     requires { ⌜ RecordsFit g (now records) × (j < g .s) × Ranges (g .n) (g .b * g .k) (now tops) ⌝ }
     ensures { λ r. ⌜ Glanced (layoutOf g) (recordAt (layoutOf g) (now (records .entry)) j) r ⌝ }
 {
     let a = j * RECORD_BYTES;
     let pages = (g.b * g.k) as usize;
-    let last = word_at(records, a + PARITY_AT);
-    let olds = word_at(records, a + NINTH_AT);
-    let parity = last % 65536;
-    // most records are full, and there is nothing to count
-    let rest = (olds == NO_OLDS) & (last / 65536 == NO_PARTIAL) & (parity < pages);
-    let plain = rest & all_written(records, a, tops);
-    if plain {
-        let names = g.n as usize + 1;
-        return Glance { plain, names };
-    }
+    let tail = tail_at(records, a);
+    let parity = tail.last % 65536;
     let bare = parity == NONE;
     let mut low = true;
     let mut names: usize = 0;
@@ -186,8 +211,8 @@ pub fn glance_at(records: &[u8], g: Geometry, j: usize, tops: &[u16; 8]) -> Glan
         m += 1;
     }
     let plain = low
-        & (olds == NO_OLDS)
-        & (last / 65536 == NO_PARTIAL)
+        & (tail.olds == NO_OLDS)
+        & (tail.last / 65536 == NO_PARTIAL)
         & (bare | (parity < pages))
         & (!bare | (names == 0));
     if !bare {

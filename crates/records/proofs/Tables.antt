@@ -7,11 +7,11 @@ use mathlib.Core.Logic.{_≢_}
 use mathlib.Core.Bool.{Bool, true, false, not, cond, _&&_, and-true}
 use mathlib.Core.List.{List}
 use lib.ListN.{getD, set, replicate}
-use lib.Dec.{leb, eqb}
-use borrow.Author.Tests.{ne-eqb, leb-true}
+use lib.Dec.{leb, ltb, eqb}
+use borrow.Author.Tests.{ne-eqb, leb-true, lt-ltb, le-ltb, lt-leb, le-leb}
 use Rattle.ranges.specs.Look.{allBelow, someBelow, countBelow, firstBelow, leastSoFar, foundIn}
 use Rattle.ranges.specs.declared.Least.{Least}
-use Rattle.ranges.proofs.Looks.{by-test, first-cong}
+use Rattle.ranges.proofs.Looks.{by-test, by-order, first-cong}
 use Rattle.ranges.proofs.Leasts.{least-passed, found-least}
 use Rattle.ranges.proofs.Tests.{differ, differ-by}
 use Rattle.ranges.proofs.Sums.{sum-start, sum-more}
@@ -28,11 +28,10 @@ use Rattle.codec.specs.declared.StripeRecord.{StripeRecord}
 use Rattle.codec.specs.Views.{recordFrom, ended, SmallRecord}
 use Rattle.names.specs.Stamps.{recordNames, namesLost, namesBelow, namesIn, namesKept}
 use Rattle.names.proofs.Totals.{on-few, chip-none, chip-more}
-use Rattle.codec.specs.declared.scan.Glance.{Glance}
 use Rattle.records.specs.declared.Tally.{Tally}
 use Rattle.records.specs.declared.SlotScan.{SlotScan}
-use Rattle.codec.specs.Scan.{Glanced}
-use Rattle.records.proofs.Plains.{plain-sound, plain-names}
+use Rattle.codec.specs.Scan.{Plain}
+use Rattle.records.proofs.Plains.{plain-sound, plain-names, plain-full}
 use Rattle.records.specs.Slots.{slotScan, unmarked, Tallied, Adds}
 
 -- ---- the tally
@@ -76,88 +75,109 @@ module _ {l : Layout} {r : ℕ → Record} {j : ℕ} {t : Tally} (h : Tallied l 
 
 -- ---- the pass
 
--- the tally, the table of the slots and the page numbers, at most 13 each, are those of the records below j; so are those on the lost chip
-pub record Passed (g : Geometry) (r : ℕ → Record) (lost j : ℕ) (seen : List Bool) (t : Tally) (names gone : ℕ) : Type 0 where
+-- how many page numbers the records below j have on the lost chip, if it is one
+abbrev lostBelow : Geometry → (ℕ → Record) → ℕ → ℕ → ℕ
+lostBelow g r lost j = cond (leb lost (g .n)) (namesBelow (layoutOf g) r lost j) 0
+
+-- the tally, the table of the slots and the page numbers, at most 13 each, are those of the records below j; the numbers on the chips that
+-- are there
+pub record Passed (g : Geometry) (r : ℕ → Record) (lost j : ℕ) (seen : List Bool) (t : Tally) (names : ℕ) : Type 0 where
   pub tally : Tallied (layoutOf g) r j t
   pub table : Marks r j seen
-  pub named : names ≡ namesIn (layoutOf g) r j
+  pub named : names + lostBelow g r lost j ≡ namesIn (layoutOf g) r j
   pub few : names ≤ 13 * j
-  pub away : gone ≡ cond (leb lost (g .n)) (namesBelow (layoutOf g) r lost j) 0
-  pub less : gone ≤ names
 
 -- before the first record no slot is marked
-pub passed-start : {g : Geometry} {r : ℕ → Record} {lost : ℕ} {t : Tally} → Tallied (layoutOf g) r 0 t → Passed g r lost 0 (replicate 256 false) t 0 0
+pub passed-start : {g : Geometry} {r : ℕ → Record} {lost : ℕ} {t : Tally} → Tallied (layoutOf g) r 0 t → Passed g r lost 0 (replicate 256 false) t 0
 passed-start {g} {r} {lost} h =
+    let none = sum-start (λ j. recordNames (layoutOf g) (r j)) in
     record {
       tally = h;
       table = marks-none;
-      named = sym (sum-start (λ j. recordNames (layoutOf g) (r j)));
+      named = by-test (leb lost (g .n)) (λ b. rw (b, chip-none (layoutOf g) r lost, none)) (λ b. rw (b, none));
       few = omega arith;
-      away = by-test (leb lost (g .n)) (λ b. rw (b, chip-none (layoutOf g) r lost)) (λ b. rw b);
-      less = omega arith;
     }
 
-module _ {g : Geometry} {r : ℕ → Record} {lost j : ℕ} {seen : List Bool} {t : Tally} {names gone : ℕ} (limited : limits (layoutOf g) ≡ true)
-    (p : Passed g r lost j seen t names gone) where
-  -- the names with those of record j
-  more-names : {more : ℕ} → more ≡ recordNames (layoutOf g) (r j) → names + more ≡ namesIn (layoutOf g) r (j + 1)
-  more-names e = rw (add-one, sum-more j (λ i. recordNames (layoutOf g) (r i)), e, p .named)
+-- the numbers of a record that is looked at in full are those of the record r
+pub looked-names : (g : Geometry) (r : Record) (e : StripeRecord) {more : ℕ} → recordFrom (layoutOf g) e ≡ ended r
+    → ((g′ : Geometry) → more ≡ recordNames (layoutOf g′) (recordFrom (layoutOf g′) e)) → more ≡ recordNames (layoutOf g) r
+unfolding ended recordNames
+looked-names g r e same m = rw same at (m g)
 
-  -- and those on the lost chip
-  more-gone : {x more : ℕ} → x ≡ namesLost (layoutOf g) r lost j → more ≡ recordNames (layoutOf g) (r j)
-      → (gone + x ≡ cond (leb lost (g .n)) (namesBelow (layoutOf g) r lost (j + 1)) 0) × (gone + x ≤ names + more)
+-- a full stripe has a number for each chip that is there
+pub each-few : (n lost : ℕ) {each : ℕ} → each ≡ cond (ltb n lost) (n + 1) n → each ≤ n + 1
+each-few n lost e = by-test (ltb n lost) (λ t. omega (arith, rw t at e)) (λ t. omega (arith, rw t at e))
+
+module _ {g : Geometry} {r : ℕ → Record} {lost j : ℕ} {seen : List Bool} {t : Tally} {names : ℕ} (limited : limits (layoutOf g) ≡ true)
+    (p : Passed g r lost j seen t names) where
+  -- of the numbers of record j, so many are on the lost chip
+  pub gone-few : {gone more : ℕ} → gone ≡ namesLost (layoutOf g) r lost j → more ≡ recordNames (layoutOf g) (r j) → gone ≤ more
   unfolding namesLost
-  more-gone x more =
+  gone-few x m =
       let l = layoutOf g in
-      let w = within l limited in
       by-test (leb lost (g .n))
-      (λ b.
-      let here = rw b at x in
-      (rw (b, chip-more l w r lost j, x, p .away, b), omega (arith, p .less, here, on-few l w r j lost (leb-true lost (g .n) b))))
-      (λ b. let here = rw b at x in (rw (b, x, p .away, b), omega (arith, p .less, here)))
+      (λ b. omega (arith, rw b at x, on-few l (within l limited) r j lost (leb-true lost (g .n) b)))
+      (λ b. omega (arith, rw b at x))
+
+  -- the names with those of record j that are not
+  more-names : {gone more : ℕ} → gone ≡ namesLost (layoutOf g) r lost j → more ≡ recordNames (layoutOf g) (r j)
+      → names + (more - gone) + lostBelow g r lost (j + 1) ≡ namesIn (layoutOf g) r (j + 1)
+  unfolding namesLost
+  more-names x m =
+      let l = layoutOf g in
+      let total : namesIn l r (j + 1) ≡ namesIn l r j + recordNames l (r j) = rw add-one (sum-more j (λ i. recordNames l (r i))) in
+      let few = gone-few x m in
+      by-test (leb lost (g .n))
+      (λ b. rw (total, b, chip-more l (within l limited) r lost j) (omega (arith, m, rw b at x, rw b at (p .named))))
+      (λ b. rw (total, b) (omega (arith, m, rw b at x, rw b at (p .named))))
 
   -- record j is plain: the tally stays
-  pub passed-plain : {look : Glance} {x : ℕ} → Glanced (layoutOf g) (r j) look → look .plain ≡ true → x ≡ namesLost (layoutOf g) r lost j
-      → Passed g r lost (j + 1) seen t (names + look .names) (gone + x)
-  passed-plain look is x =
-      let e = look .found is in
-      let named = plain-names e in
-      let (away, less) = more-gone x named in
+  pub passed-plain : {gone more : ℕ} → Plain (layoutOf g) (r j) more → more ≤ 9 → gone ≡ namesLost (layoutOf g) r lost j
+      → Passed g r lost (j + 1) seen t (names + (more - gone))
+  passed-plain e most x =
       record {
         tally = rw and-true at (tallied-bare (p .tally) (sym (plain-sound e)) (e .slot));
         table = marks-skip (p .table) (e .slot);
-        named = more-names named;
-        few = omega (arith, p .few, look .few);
-        away = away;
-        less = less;
+        named = more-names x (plain-names e);
+        few = omega (arith, p .few);
       }
 
+  -- it is that of a full stripe: it has a number for each chip that is there
+  pub passed-full : {each : ℕ} → Plain (layoutOf g) (r j) (g .n + 1) → each ≡ cond (ltb (g .n) lost) (g .n + 1) (g .n)
+      → Passed g r lost (j + 1) seen t (names + each)
+  unfolding namesLost
+  passed-full {each} e is =
+      let l = layoutOf g in
+      let one : each ≡ g .n + 1 - namesLost l r lost j =
+      by-order (g .n) lost
+      (λ h. rw (is, lt-ltb (g .n) lost h, lt-leb lost (g .n) h) (omega arith))
+      (λ h. rw (is, le-ltb (g .n) lost h, le-leb lost (g .n) h, plain-full e (within l limited .members-high) refl r j lost refl h) (omega arith)) in
+      rw one (passed-plain e (omega (arith, within l limited .members-high)) refl)
+
   -- it is looked at in full
-  pub passed-next : {e : StripeRecord} {ends : Bool} {more x : ℕ} {next : Tally}
+  pub passed-next : {e : StripeRecord} {ends : Bool} {more gone : ℕ} {next : Tally}
       → (recordFrom (layoutOf g) e ≡ ended (r j)) × SmallRecord e → ends ≡ eqb (r j .rest) 0
       → ((g′ : Geometry) → more ≡ recordNames (layoutOf g′) (recordFrom (layoutOf g′) e)) × (more ≤ 13)
-      → Adds (layoutOf g) j e ends (getD seen (e .slot) false) t next → x ≡ namesLost (layoutOf g) r lost j
-      → Passed g r lost (j + 1) (set seen (e .slot) true) next (names + more) (gone + x)
-  unfolding recordFrom ended recordNames
+      → Adds (layoutOf g) j e ends (getD seen (e .slot) false) t next → gone ≡ namesLost (layoutOf g) r lost j
+      → Passed g r lost (j + 1) (set seen (e .slot) true) next (names + (more - gone))
+  unfolding recordFrom ended
   passed-next {e} (same, small) zeros (m, most) a x =
       let s : e .slot ≡ r j .slot = ap (λ (x : Record). x .slot) same in
-      let named = rw same at (m g) in
-      let (away, less) = more-gone x named in
       record {
         tally = a .adds r same zeros
             (λ has. rw (← s) (p .table .told (e .slot) (omega (arith, small .slot, differ (e .slot) 255 (rw (← s) at has)))))
             (p .tally);
         table = marks-more (p .table) s;
-        named = more-names named;
+        named = more-names x (looked-names g (r j) e same m);
         few = omega (arith, p .few);
-        away = away;
-        less = less;
       }
 
   -- once all are passed, the names are those on the chips that are there
-  pub passed-names : j ≡ g .s → names - gone ≡ namesKept (layoutOf g) r lost
+  pub passed-names : j ≡ g .s → names ≡ namesKept (layoutOf g) r lost
   unfolding namesKept
-  passed-names e = by-test (leb lost (g .n)) (λ b. rw (b, p .named, p .away, b, e)) (λ b. rw (b, p .named, p .away, b, e) (omega arith))
+  passed-names e =
+      let all = rw e at (p .named) in
+      by-test (leb lost (g .n)) (λ b. rw b (omega (arith, rw b at all))) (λ b. rw b (omega (arith, rw b at all)))
 
   -- the tests are those of the definition
   pub passed-all : j ≡ g .s → (co : Collection)

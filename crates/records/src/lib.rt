@@ -8,8 +8,8 @@ use codec::collection_at;
 use codec::collection_ends;
 use codec::record_at;
 use codec::record_ends;
-use codec::scan::Glance;
 use codec::scan::glance_at;
+use codec::scan::is_full;
 use codec::scan::ranges;
 use costs::cost_of;
 use costs::set_bits;
@@ -30,7 +30,6 @@ ghost use Rattle.layout.specs.Record.{Record, recordAt};
 ghost use Rattle.layout.specs.Collection.{collectionAt};
 ghost use Rattle.rules.specs.Sound.{memberSound, recordSound, collectionSound, recordsSound};
 ghost use Rattle.codec.specs.Fit.{RecordsFit};
-ghost use Rattle.codec.specs.Scan.{Glanced};
 ghost use Rattle.codec.specs.Views.{recordFrom};
 ghost use Rattle.records.specs.Slots.{slotScan, Tallied, Adds, unmarked};
 ghost use Rattle.names.specs.Stamps.{recordNames, namesLost, namesKept};
@@ -177,18 +176,13 @@ fn with_record(g: Geometry, j: usize, e: StripeRecord, ends: bool, taken: bool, 
     }
 }
 
-// How many page numbers the record of stripe j has on the lost chip. A plain record with a number for every chip has one on each, and need
-// not be looked at again.
-fn names_lost(records: &[u8], g: Geometry, lost: usize, j: usize, look: Glance) -> usize
-    requires { ⌜ RecordsFit g (now records) × (j < g .s) × Glanced (layoutOf g) (recordAt (layoutOf g) (now records) j) look ⌝ }
-    ensures { λ r. ⌜ (r ≡ namesLost (layoutOf g) (recordAt (layoutOf g) (now (records .entry))) lost j) × (r ≤ 2) ⌝ }
+// How many page numbers the record of stripe j has on the lost chip.
+fn names_lost(records: &[u8], g: Geometry, lost: usize, j: usize) -> usize
+    requires { ⌜ RecordsFit g (now records) × (j < g .s) ⌝ }
+    ensures { λ r. ⌜ r ≡ namesLost (layoutOf g) (recordAt (layoutOf g) (now (records .entry))) lost j ⌝ }
 {
-    let n = g.n as usize;
-    if n < lost {
+    if (g.n as usize) < lost {
         return 0;
-    }
-    if look.plain & (look.names == n + 1) {
-        return 1;
     }
     names_on(records, g, lost, j)
 }
@@ -223,7 +217,7 @@ fn slots_told(t: Tally, seen: &[bool; 256], m: usize) -> SlotScan
 }
 
 // Whether the records are sound, how many page numbers they have on the chips that are there, and what they tell of the slots: one pass,
-// with a table of the slots seen. Of a record that is found plain only the page numbers matter.
+// with a table of the slots seen. Of a record that is found plain only the page numbers matter; of a full stripe not even these.
 pub fn scan_records(g: Geometry, records: &[u8], lost: usize) -> RecordsScan
     requires { ⌜ RecordsFit g (now records) ⌝ }
     ensures { λ r. ⌜ (r .sound ≡ recordsSound (layoutOf g) (recordAt (layoutOf g) (now (records .entry))) (collectionAt (layoutOf g) (now (records .entry))))
@@ -231,26 +225,31 @@ pub fn scan_records(g: Geometry, records: &[u8], lost: usize) -> RecordsScan
         × (r .slots ≡ slotScan (layoutOf g) (recordAt (layoutOf g) (now (records .entry)))) ⌝ }
 {
     let s = g.s as usize;
+    let n = g.n as usize;
     let most = g.m as usize;
     let tops = ranges(g);
+    let each = if n < lost { n + 1 } else { n };
     let mut seen = [false; 256];
     let mut tally = no_tally();
     let mut names: usize = 0;
-    let mut gone: usize = 0;
     let mut j = 0;
     while j < s {
-        let look = glance_at(records, g, j, &tops);
-        gone += names_lost(records, g, lost, j, look);
-        if look.plain {
-            names += look.names;
+        if is_full(records, g, j, &tops) {
+            names += each;
         } else {
-            let e = record_at(records, g, j);
-            let ends = record_ends(records, g, j);
-            let slot = e.slot;
-            let next = with_record(g, j, e, ends, seen[slot], tally);
-            tally = next;
-            seen[slot] = true;
-            names += names_of(e);
+            let look = glance_at(records, g, j, &tops);
+            let gone = names_lost(records, g, lost, j);
+            if look.plain {
+                names += look.names - gone;
+            } else {
+                let e = record_at(records, g, j);
+                let ends = record_ends(records, g, j);
+                let slot = e.slot;
+                let next = with_record(g, j, e, ends, seen[slot], tally);
+                tally = next;
+                seen[slot] = true;
+                names += names_of(e) - gone;
+            }
         }
         j += 1;
     }
@@ -258,7 +257,7 @@ pub fn scan_records(g: Geometry, records: &[u8], lost: usize) -> RecordsScan
     let slots = slots_told(tally, &seen, most);
     RecordsScan {
         sound,
-        names: names - gone,
+        names,
         slots,
     }
 }

@@ -5,6 +5,7 @@ use native.Mathlib.Omega.{arith}
 use mathlib.Core.Path.{_≡_, refl}
 use mathlib.Core.Bool.{not, cond}
 use mathlib.Core.Logic.{⊎-elim}
+use lib.ListN.{length}
 use lib.Dec.{eqb}
 use borrow.Author.Needs.{needs}
 use borrow.Author.Tests.{eq-eqb, ne-eqb, not-true, not-false}
@@ -12,120 +13,77 @@ use Rattle.ranges.specs.Look.{allBelow, countBelow}
 use Rattle.ranges.proofs.Tallies.{ones, count-more}
 use Rattle.layout.specs.Layout.{layoutOf}
 use Rattle.layout.specs.Record.{recordAt}
-use Rattle.layout.specs.Images.{recordsLength}
 use Rattle.codec.specs.Scan.{Glanced}
 use Rattle.codec.proofs.Sizes.{bounded}
-use Rattle.codec.proofs.Glances.{next, lowIn, givenIn, plainTests, full, glanced}
+use Rattle.codec.proofs.Offsets.{record-within}
+use Rattle.codec.proofs.Glances.{next, lowIn, givenIn, plainTests, glanced}
 use Rattle.codec.proofs.scan.glance_at.Statement.{statement}
 use Rattle.codec.proofs.scan.glance_at.Tie as tie
 
 abbrev Inv-loop : tie.InvT-loop
-Inv-loop records j tops a pages last olds parity rest plain bare low₀ names₀ m₀ low names m =
+Inv-loop records j tops a pages tail parity bare low₀ names₀ m₀ low names m =
     (m ≤ 8) × (low ≡ allBelow m (lowIn tops records a)) × (names ≡ countBelow m (givenIn records a)) × (names ≤ m)
 
 abbrev μ-loop : tie.MeasureT-loop
-μ-loop records j tops a pages last olds parity rest plain bare low₀ names₀ m₀ low names m = 8 - m
+μ-loop records j tops a pages tail parity bare low₀ names₀ m₀ low names m = 8 - m
 
-mul-a : tie.Need-mul-a Inv-loop μ-loop
-unfolding recordsLength
-mul-a c = omega arith
-
-add-word-at : tie.Need-add-word-at Inv-loop μ-loop
-unfolding recordsLength
-add-word-at c = omega arith
-
-word-at-requires : tie.Need-word-at-requires Inv-loop μ-loop
-unfolding recordsLength
-word-at-requires c κs = omega arith
-
-add-word-at-2 : tie.Need-add-word-at-2 Inv-loop μ-loop
-unfolding recordsLength
-add-word-at-2 c = omega arith
-
-word-at-requires-2 : tie.Need-word-at-requires-2 Inv-loop μ-loop
-unfolding recordsLength
-word-at-requires-2 c κs = omega arith
-
-all-written-requires : tie.Need-all-written-requires Inv-loop μ-loop
-unfolding recordsLength
-all-written-requires c κs = omega arith
-
-add-names : tie.Need-add-names Inv-loop μ-loop
-add-names c = omega (arith, bounded (c .before .before .before .before .before .before .args .g) (c .before .before .before .before .before .before .pre .0 .limited))
-
-returns : tie.Need-returns Inv-loop μ-loop
-returns c =
-    let start = c .before .before .before .before .before .before in
-    record {
-      found = λ t.
-          full (start .pre .0) (start .pre .1) (start .pre .2)
-          (λ i. c .before .before .before .before .before .shared-slice-known .given i .fits)
-          (c .before .before .word-at2 .ensures)
-          (c .before .before .before .word-at .ensures)
-          (rw (c .before .all-written .ensures) at t);
-      few = omega (arith, bounded (start .args .g) (start .pre .0 .limited));
-    }
+-- the record ends within the image
+fits : (c : tie.Start Inv-loop μ-loop) → c .args .j * 32 + 32 ≤ length (c .args .records .now)
+fits c = record-within (c .args .g) (c .args .records .now) (c .pre .0) (c .args .j) (omega (arith, c .pre .1))
 
 loop-holds : tie.Need-loop-holds Inv-loop μ-loop
 unfolding allBelow countBelow
 loop-holds c = (omega arith, refl, refl, omega arith)
 
-add-number-at : tie.Need-add-number-at Inv-loop μ-loop
-unfolding recordsLength
-add-number-at c = omega arith
-
-number-at-requires : tie.Need-number-at-requires Inv-loop μ-loop
-unfolding recordsLength
-number-at-requires c κs = omega arith
-
 -- what the branch adds
-with-page : (c : tie.Joined2 Inv-loop μ-loop)
+with-page : (c : tie.Joined1 Inv-loop μ-loop)
     → let loop = c .before .before .before .before .loop in
-    c .if2 .names ≡ loop .names + ones (not (eqb (next (c .before .before .number-at .result)) 0))
+    c .if1 .names ≡ loop .names + ones (not (eqb (next (c .before .before .number-at .result)) 0))
 with-page c =
     let x = next (c .before .before .number-at .result) in
-    ⊎-elim (λ w. rw (ne-eqb x 0 (w .0 .taken)) (w .1)) (λ w. rw (eq-eqb x 0 (w .0 .left)) (omega arith)) (c .if2 .came)
+    ⊎-elim (λ w. rw (ne-eqb x 0 (w .0 .taken)) (w .1)) (λ w. rw (eq-eqb x 0 (w .0 .left)) (omega arith)) (c .if1 .came)
 
 loop-again : tie.Need-loop-again Inv-loop μ-loop
 unfolding allBelow
 loop-again c =
-    let a = c .before .before .before .before .before .before .before .before .before .before .before .args in
+    let a = c .before .before .before .before .before .before .before .before .before .args in
     let loop = c .before .before .before .before .loop in
     let number = c .before .before .number-at .ensures .0 in (
       omega arith,
       rw (add-one (loop .m), loop .inv .1, number),
       rw (with-page c, number, loop .inv .2, add-one (loop .m), count-more (loop .m) (givenIn (a .records .now) (a .j * 32))),
-      ⊎-elim (λ w. omega arith) (λ w. omega arith) (c .if2 .came),
+      ⊎-elim (λ w. omega arith) (λ w. omega arith) (c .if1 .came),
     )
 
 -- after the loop the look is whole; count is the names with the parity page
 whole : (c : tie.After-loop Inv-loop μ-loop) {count : ℕ}
-    → let a = c .before .before .before .before .before .before .before .before .args in
+    → let a = c .before .before .before .before .before .before .args in
     let loop = c .before .loop in
-    let last = c .before .before .before .before .before .word-at .result in
-    count ≡ loop .names + cond (eqb (last % 65536) 65535) 0 1 → count ≤ 9
+    let tail = c .before .before .before .tail-at .result in
+    count ≡ loop .names + cond (eqb (tail .last % 65536) 65535) 0 1 → count ≤ 9
     → Glanced (layoutOf (a .g)) (recordAt (layoutOf (a .g)) (a .records .now) (a .j))
-    (record { plain = plainTests (a .g) (c .before .before .before .before .word-at2 .result) last (loop .low) (loop .names); names = count })
+    (record { plain = plainTests (a .g) (tail .olds) (tail .last) (loop .low) (loop .names); names = count })
 whole c =
-    let start = c .before .before .before .before .before .before .before .before in
+    let start = c .before .before .before .before .before .before in
+    let tail = c .before .before .before .tail-at .ensures in
     let loop = c .before .loop in
     let all : loop .m ≡ 8 = omega arith in
     glanced (start .pre .0) (start .pre .1) (start .pre .2)
-    (λ i. c .before .before .before .before .before .before .before .shared-slice-known .given i .fits)
-    (c .before .before .before .before .word-at2 .ensures)
-    (c .before .before .before .before .before .word-at .ensures)
+    (λ i. c .before .before .before .before .before .shared-slice-known .given i .fits)
+    (tail .0)
+    (tail .1)
     (rw all at (loop .inv .1))
     (rw all at (loop .inv .2))
 
+returns : tie.Need-returns Inv-loop μ-loop
+returns c =
+    let last = c .before .before .before .before .before .before .tail-at .result .last in
+    whole (c .before .before .before) (rw (not-true (eqb (last % 65536) 65535) (c .if2 .taken))) (omega arith)
+
 returns-2 : tie.Need-returns-2 Inv-loop μ-loop
 returns-2 c =
-    let last = c .before .before .before .before .before .before .word-at .result in
-    whole (c .before) (rw (not-true (eqb (last % 65536) 65535) (c .if3 .taken))) (omega arith)
-
-returns-3 : tie.Need-returns-3 Inv-loop μ-loop
-returns-3 c =
-    let last = c .before .before .before .before .before .before .word-at .result in
-    whole (c .before) (rw (not-false (eqb (last % 65536) 65535) (c .if3 .left)) (omega arith)) (omega arith)
+    let last = c .before .before .before .before .before .before .tail-at .result .last in
+    whole (c .before .before .before) (rw (not-false (eqb (last % 65536) 65535) (c .if2 .left)) (omega arith)) (omega arith)
 
 pub glance-at-spec : {M : Type 1} → statement M
 glance-at-spec =
@@ -133,19 +91,13 @@ glance-at-spec =
     (tie.spec
     Inv-loop
     μ-loop
-    mul-a
+    (λ c. omega (arith, fits (c .before)))
     (λ c. omega (arith, bounded (c .before .before .args .g) (c .before .before .pre .0 .limited)))
-    add-word-at
-    word-at-requires
-    add-word-at-2
-    word-at-requires-2
-    all-written-requires
-    add-names
-    returns
+    (λ c κs. fits (c .before .before))
     loop-holds
     (λ c. search needs)
-    add-number-at
-    number-at-requires
+    (λ c. omega (arith, fits (c .before .before .before .before .before .before)))
+    (λ c κs. omega (arith, fits (c .before .before .before .before .before .before)))
     (λ c. search needs)
     (λ c. search needs)
     (λ c. search needs)
@@ -155,5 +107,5 @@ glance-at-spec =
     (λ c. omega arith)
     loop-again
     (λ c. omega arith)
-    returns-2
-    returns-3)
+    returns
+    returns-2)
