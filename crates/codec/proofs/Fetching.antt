@@ -1,5 +1,4 @@
--- The tags and stripes of pages: where they stand in the chip image, and what the loop has fetched of them so far. The numbers of
--- a record.
+-- The stamps of pages: where they stand in the chip image, and what the loop has fetched of them so far. The numbers of a record.
 use Prim.Native.Nat.{ℕ, _+_, _-_, _*_, _≤_, _<_}
 use native.Mathlib.Nat.{add-mul, mul-le-mul-right, le-refl, not-suc-le-zero}
 use native.Mathlib.Numerals.{add-one}
@@ -18,11 +17,11 @@ use Rattle.ranges.proofs.Looks.{at-last, by-order}
 use Rattle.layout.specs.declared.Geometry.{Geometry}
 use Rattle.layout.specs.Layout.{layoutOf, limits, none, pages}
 use Rattle.layout.proofs.Limits.{within}
-use Rattle.layout.specs.Page.{pageAt}
+use Rattle.layout.specs.Page.{Page, pageAt}
 use Rattle.layout.proofs.Pages.{page-in-fits}
 use Rattle.codec.specs.Fit.{ChipsFit}
 use Rattle.codec.proofs.Offsets.{offset, page-high, page-within, PageIn, page-in}
-use Rattle.codec.specs.Scan.{TagIs, StampsOf, numberOf}
+use Rattle.codec.specs.Scan.{StampIs, PackedOf, SplitOf, StampsOf, numberOf}
 
 -- ---- a list that a loop fills
 
@@ -61,13 +60,9 @@ module _ (g : Geometry) (limited : limits (layoutOf g) ≡ true) where
 
 -- ---- the spares of pages one behind another
 
--- t is the tag that stands m pages of u bytes behind offset a
-abbrev pub TagAt : List ℕ → ℕ → ℕ → ℕ → ℕ → Type 0
-TagAt chips a u m t = TagIs t (getD chips (a + m * u) 0) (getD chips (a + m * u + 1) 0)
-
--- and j the stripe
-abbrev pub StripeAt : List ℕ → ℕ → ℕ → ℕ → ℕ → Type 0
-StripeAt chips a u m j = j ≡ number (part (a + m * u + 2) 2 chips)
+-- s is the stamp that stands m pages of u bytes behind offset a
+abbrev pub StampAt : List ℕ → ℕ → ℕ → ℕ → ℕ → Type 0
+StampAt chips a u m s = StampIs s (getD chips (a + m * u) 0) (getD chips (a + m * u + 1) 0) (number (part (a + m * u + 2) 2 chips))
 
 -- so many pages of chip c from p on are there
 module _ (g : Geometry) (chips : List ℕ) (fit : ChipsFit g chips) (c p n : ℕ) (chip : c ≤ g .n) (there : p + n ≤ pages (layoutOf g)) where
@@ -84,18 +79,22 @@ module _ (g : Geometry) (chips : List ℕ) (fit : ChipsFit g chips) (c p n : ℕ
       let low : p + i < pages (layoutOf g) = omega arith in
       rw spare-place (rw (fit .long) (omega (arith, page-within g c (p + i) chip low)), omega (arith, page-high g c (p + i) chip low (fit .limited)))
 
-  -- all tags and stripes from the first spare on are those of the pages
-  pub fetch-all : {tags stripes : List ℕ} {i : ℕ}
-      → Filled (TagAt chips (offset g c p + g .w) (g .w + 8)) tags i
-      → Filled (StripeAt chips (offset g c p + g .w) (g .w + 8)) stripes i
-      → i ≡ n
-      → StampsOf (pageAt (layoutOf g) chips c) p n tags stripes
-  fetch-all h s e =
-      let page : (i : ℕ) → i < n → PageIn g chips c (p + i) = λ i place. page-in g chips c (p + i) (omega arith) in
-      record {
-        tag = λ i place. rw (page i place .kind, page i place .member, ← spare-place i) (h .at i (rw e place));
-        stripe = λ i place. rw (page i place .stripe, ← spare-place i) (s .at i (rw e place));
-      }
+  -- all stamps from the first spare on are those of the pages
+  pub packed-all : {stamps : List ℕ} {i : ℕ} → Filled (StampAt chips (offset g c p + g .w) (g .w + 8)) stamps i → i ≡ n
+      → PackedOf (pageAt (layoutOf g) chips c) p n stamps
+  packed-all h e = record {
+    is = λ i place.
+        let page = page-in g chips c (p + i) (omega arith) in
+        rw (page .kind, page .member, page .stripe, ← spare-place i) (h .at i (rw e place));
+  }
+
+-- taken apart they are the tags and stripes
+pub split-all : {x : ℕ → Page} {first n : ℕ} {stamps tags stripes : List ℕ} → PackedOf x first n stamps → SplitOf n stamps tags stripes
+    → StampsOf x first n tags stripes
+split-all h s = record {
+  tag = λ i place. rw (s .tag i place) (h .is i place .tag);
+  stripe = λ i place. rw (s .stripe i place) (h .is i place .stripe);
+}
 
 -- ---- the numbers of a record
 

@@ -28,6 +28,20 @@ tagOf k m = k + 256 * m
 abbrev pub cleanTag : ℕ → Bool
 cleanTag t = eqb (t % 256) cleanKind
 
+-- the stamp s is the tag of kind k and member m, and behind it the stripe j
+pub record StampIs (s k m j : ℕ) : Type 0 where
+  pub tag : TagIs (s % 65536) k m
+  pub stripe : s / 65536 % 65536 ≡ j
+
+-- the stamps of so many pages from the first on, with the chip's pages x
+pub record PackedOf (x : ℕ → Page) (first count : ℕ) (stamps : List ℕ) : Type 0 where
+  pub is : (i : ℕ) → i < count → StampIs (getD stamps i 0) (x (first + i) .kind) (x (first + i) .member) (x (first + i) .stripe)
+
+-- so many stamps, taken apart
+pub record SplitOf (count : ℕ) (stamps tags stripes : List ℕ) : Type 0 where
+  pub tag : (i : ℕ) → i < count → getD tags i 0 ≡ getD stamps i 0 % 65536
+  pub stripe : (i : ℕ) → i < count → getD stripes i 0 ≡ getD stamps i 0 / 65536 % 65536
+
 -- the tags and stripes of so many pages from the first on, with the chip's pages x
 pub record StampsOf (x : ℕ → Page) (first count : ℕ) (tags stripes : List ℕ) : Type 0 where
   pub tag : (i : ℕ) → i < count → TagIs (getD tags i 0) (x (first + i) .kind) (x (first + i) .member)

@@ -16,12 +16,14 @@ ghost use mathlib.Core.Path.{_≡_};
 ghost use mathlib.Core.Bool.{true};
 ghost use Prim.Native.Nat.{_+_, _*_, _≤_, _<_};
 ghost use lib.ListN.{length, getD};
+ghost use Rattle.bytes.specs.Number.{number};
+ghost use Rattle.bytes.specs.Units.{part};
 ghost use Rattle.ranges.specs.Look.{allBelow};
 ghost use Rattle.layout.specs.Layout.{layoutOf, limits, pages};
 ghost use Rattle.layout.specs.Page.{pageAt};
 ghost use Rattle.layout.specs.Record.{recordAt};
 ghost use Rattle.codec.specs.Fit.{ChipsFit, RecordsFit};
-ghost use Rattle.codec.specs.Scan.{TagIs, tagOf, cleanTag, StampsOf, lastNumber, numberOf, Ranges, WordAt, writtenIn, Plain, Glanced};
+ghost use Rattle.codec.specs.Scan.{tagOf, cleanTag, StampIs, PackedOf, SplitOf, StampsOf, lastNumber, numberOf, Ranges, WordAt, writtenIn, Plain, Glanced};
 
 // The numbers of a record by their index: from 0 on the current pages, then the old ones, then the parity page. No index stands for no
 // number.
@@ -54,12 +56,51 @@ pub fn is_clean_tag(tag: u16) -> bool
     is_clean_kind(tag % 256)
 }
 
-// The tag at offset a.
-fn tag_at(chips: &[u8], a: usize) -> u16
-    requires { ⌜ a + 2 ≤ length (now chips) ⌝ }
-    ensures { λ r. ⌜ TagIs r (getD (now (chips .entry)) a 0) (getD (now (chips .entry)) (a + 1) 0) ⌝ }
+// The stamp of the page whose spare begins at offset a: its tag, and behind it its stripe. One number, for four bytes are loaded at once.
+fn stamp_at(chips: &[u8], a: usize) -> u32
+    requires { ⌜ a + 4 ≤ length (now chips) ⌝ }
+    ensures { λ r. ⌜ StampIs r (getD (now (chips .entry)) a 0) (getD (now (chips .entry)) (a + 1) 0) (number (part (a + 2) 2 (now (chips .entry)))) ⌝ }
 {
-    (byte(chips, a) + 256 * byte(chips, a + MEMBER_AT)) as u16
+    (byte(chips, a)
+        + 256 * byte(chips, a + MEMBER_AT)
+        + 65536 * number_at(chips, a + STRIPE_AT)) as u32
+}
+
+// The stamps of so many pages of chip c, from page `first` on.
+fn fetch_packed(
+    chips: &[u8],
+    g: Geometry,
+    c: usize,
+    first: usize,
+    count: usize,
+    stamps: &mut [u32; 128],
+)
+    requires { ⌜ ChipsFit g (now chips) × (c ≤ g .n) × (first < pages (layoutOf g)) × (first + count ≤ pages (layoutOf g)) × (count ≤ 128)
+        × (length (now stamps) ≡ 128) ⌝ }
+    ensures { λ _. ⌜ PackedOf (pageAt (layoutOf g) (now (chips .entry)) c) first count (now (stamps .exit)) ⌝ }
+{
+    let w = g.w as usize;
+    let start = page_offset(g, c, first) + w;
+    let mut i = 0;
+    while i < count {
+        let a = start + i * (w + SPARE_BYTES);
+        stamps[i] = stamp_at(chips, a);
+        i += 1;
+    }
+}
+
+// The tags and stripes of so many stamps.
+fn split_stamps(count: usize, stamps: &[u32; 128], tags: &mut [u16; 128], stripes: &mut [u16; 128])
+    requires { ⌜ (count ≤ 128) × (length (now tags) ≡ 128) × (length (now stripes) ≡ 128) ⌝ }
+    ensures { λ _. ⌜ SplitOf count (now (stamps .entry)) (now (tags .exit)) (now (stripes .exit))
+        × (length (now (tags .exit)) ≡ 128) × (length (now (stripes .exit)) ≡ 128) ⌝ }
+{
+    let mut i = 0;
+    while i < count {
+        tags[i] = (stamps[i] % 65536) as u16;
+        stripes[i] = (stamps[i] / 65536 % 65536) as u16;
+        i += 1;
+    }
 }
 
 // The tags and stripes of so many pages of chip c, from page `first` on. They are fetched before any is looked up in the records, so that
@@ -78,15 +119,9 @@ pub fn fetch_stamps(
     ensures { λ _. ⌜ StampsOf (pageAt (layoutOf g) (now (chips .entry)) c) first count (now (tags .exit)) (now (stripes .exit))
         × (length (now (tags .exit)) ≡ 128) × (length (now (stripes .exit)) ≡ 128) ⌝ }
 {
-    let w = g.w as usize;
-    let start = page_offset(g, c, first) + w;
-    let mut i = 0;
-    while i < count {
-        let a = start + i * (w + SPARE_BYTES);
-        tags[i] = tag_at(chips, a);
-        stripes[i] = number_at(chips, a + STRIPE_AT) as u16;
-        i += 1;
-    }
+    let mut stamps = [0u32; 128];
+    fetch_packed(chips, g, c, first, count, &mut stamps);
+    split_stamps(count, &stamps, tags, stripes);
 }
 
 // None, as a number of two bytes.
