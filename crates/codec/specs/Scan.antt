@@ -9,9 +9,11 @@ use lib.Dec.{ltb, eqb}
 use Rattle.bytes.specs.Number.{number}
 use Rattle.bytes.specs.Units.{part}
 use Rattle.ranges.specs.Look.{countBelow}
-use Rattle.layout.specs.Layout.{Layout, none, isNone, pages}
+use Rattle.layout.specs.declared.Geometry.{Geometry}
+use Rattle.layout.specs.Layout.{Layout, layoutOf, none, isNone, pages}
 use Rattle.layout.specs.Page.{Page, cleanKind}
 use Rattle.layout.specs.Record.{Record, noSlot}
+use Rattle.codec.specs.Fit.{ChipsFit}
 use Rattle.codec.specs.declared.scan.Glance.{Glance}
 
 -- ---- the stamps of pages
@@ -27,6 +29,14 @@ tagOf k m = k + 256 * m
 -- the page with this tag is clean
 abbrev pub cleanTag : ℕ → Bool
 cleanTag t = eqb (t % 256) cleanKind
+
+-- chip c has so many pages from the first on, no more than the arrays for their stamps hold
+pub record Fetchable (g : Geometry) (chips : List ℕ) (c first count : ℕ) : Type 0 where
+  pub fit : ChipsFit g chips
+  pub chip : c ≤ g .n
+  pub start : first < pages (layoutOf g)
+  pub there : first + count ≤ pages (layoutOf g)
+  pub few : count ≤ 128
 
 -- the stamp s is the tag of kind k and member m, and behind it the stripe j
 pub record StampIs (s k m j : ℕ) : Type 0 where

@@ -23,7 +23,7 @@ ghost use Rattle.layout.specs.Layout.{layoutOf, limits, pages};
 ghost use Rattle.layout.specs.Page.{pageAt};
 ghost use Rattle.layout.specs.Record.{recordAt};
 ghost use Rattle.codec.specs.Fit.{ChipsFit, RecordsFit};
-ghost use Rattle.codec.specs.Scan.{tagOf, cleanTag, StampIs, PackedOf, SplitOf, StampsOf, lastNumber, numberOf, Ranges, WordAt, writtenIn, Plain, Glanced};
+ghost use Rattle.codec.specs.Scan.{TagIs, tagOf, cleanTag, Fetchable, StampIs, PackedOf, SplitOf, StampsOf, lastNumber, numberOf, Ranges, WordAt, writtenIn, Plain, Glanced};
 
 // The numbers of a record by their index: from 0 on the current pages, then the old ones, then the parity page. No index stands for no
 // number.
@@ -56,7 +56,40 @@ pub fn is_clean_tag(tag: u16) -> bool
     is_clean_kind(tag % 256)
 }
 
-// The stamp of the page whose spare begins at offset a: its tag, and behind it its stripe. One number, for four bytes are loaded at once.
+// The tag at offset a.
+fn tag_at(chips: &[u8], a: usize) -> u16
+    requires { ⌜ a + 2 ≤ length (now chips) ⌝ }
+    ensures { λ r. ⌜ TagIs r (getD (now (chips .entry)) a 0) (getD (now (chips .entry)) (a + 1) 0) ⌝ }
+{
+    (byte(chips, a) + 256 * byte(chips, a + MEMBER_AT)) as u16
+}
+
+// The tags and stripes of pages that are longer than a line of the processor's caches.
+fn fetch_apart(
+    chips: &[u8],
+    g: Geometry,
+    c: usize,
+    first: usize,
+    count: usize,
+    tags: &mut [u16; 128],
+    stripes: &mut [u16; 128],
+)
+    requires { ⌜ Fetchable g (now chips) c first count × (length (now tags) ≡ 128) × (length (now stripes) ≡ 128) ⌝ }
+    ensures { λ _. ⌜ StampsOf (pageAt (layoutOf g) (now (chips .entry)) c) first count (now (tags .exit)) (now (stripes .exit))
+        × (length (now (tags .exit)) ≡ 128) × (length (now (stripes .exit)) ≡ 128) ⌝ }
+{
+    let w = g.w as usize;
+    let start = page_offset(g, c, first) + w;
+    let mut i = 0;
+    while i < count {
+        let a = start + i * (w + SPARE_BYTES);
+        tags[i] = tag_at(chips, a);
+        stripes[i] = number_at(chips, a + STRIPE_AT) as u16;
+        i += 1;
+    }
+}
+
+// The stamp of the page whose spare begins at offset a: its tag, and behind it its stripe.
 fn stamp_at(chips: &[u8], a: usize) -> u32
     requires { ⌜ a + 4 ≤ length (now chips) ⌝ }
     ensures { λ r. ⌜ StampIs r (getD (now (chips .entry)) a 0) (getD (now (chips .entry)) (a + 1) 0) (number (part (a + 2) 2 (now (chips .entry)))) ⌝ }
@@ -67,7 +100,7 @@ fn stamp_at(chips: &[u8], a: usize) -> u32
 }
 
 // The stamps of so many pages of chip c, from page `first` on.
-fn fetch_packed(
+fn fetch_words(
     chips: &[u8],
     g: Geometry,
     c: usize,
@@ -75,8 +108,7 @@ fn fetch_packed(
     count: usize,
     stamps: &mut [u32; 128],
 )
-    requires { ⌜ ChipsFit g (now chips) × (c ≤ g .n) × (first < pages (layoutOf g)) × (first + count ≤ pages (layoutOf g)) × (count ≤ 128)
-        × (length (now stamps) ≡ 128) ⌝ }
+    requires { ⌜ Fetchable g (now chips) c first count × (length (now stamps) ≡ 128) ⌝ }
     ensures { λ _. ⌜ PackedOf (pageAt (layoutOf g) (now (chips .entry)) c) first count (now (stamps .exit)) ⌝ }
 {
     let w = g.w as usize;
@@ -90,7 +122,7 @@ fn fetch_packed(
 }
 
 // The tags and stripes of so many stamps.
-fn split_stamps(count: usize, stamps: &[u32; 128], tags: &mut [u16; 128], stripes: &mut [u16; 128])
+fn split_words(count: usize, stamps: &[u32; 128], tags: &mut [u16; 128], stripes: &mut [u16; 128])
     requires { ⌜ (count ≤ 128) × (length (now tags) ≡ 128) × (length (now stripes) ≡ 128) ⌝ }
     ensures { λ _. ⌜ SplitOf count (now (stamps .entry)) (now (tags .exit)) (now (stripes .exit))
         × (length (now (tags .exit)) ≡ 128) × (length (now (stripes .exit)) ≡ 128) ⌝ }
@@ -103,8 +135,30 @@ fn split_stamps(count: usize, stamps: &[u32; 128], tags: &mut [u16; 128], stripe
     }
 }
 
+// The tags and stripes of shorter pages, with one load for each page. They stand in an array between, or the compiler would load twice.
+fn fetch_together(
+    chips: &[u8],
+    g: Geometry,
+    c: usize,
+    first: usize,
+    count: usize,
+    tags: &mut [u16; 128],
+    stripes: &mut [u16; 128],
+)
+    requires { ⌜ Fetchable g (now chips) c first count × (length (now tags) ≡ 128) × (length (now stripes) ≡ 128) ⌝ }
+    ensures { λ _. ⌜ StampsOf (pageAt (layoutOf g) (now (chips .entry)) c) first count (now (tags .exit)) (now (stripes .exit))
+        × (length (now (tags .exit)) ≡ 128) × (length (now (stripes .exit)) ≡ 128) ⌝ }
+{
+    let mut stamps = [0u32; 128];
+    fetch_words(chips, g, c, first, count, &mut stamps);
+    split_words(count, &stamps, tags, stripes);
+}
+
+// A line of the processor's caches.
+const LINE: u64 = 64;
+
 // The tags and stripes of so many pages of chip c, from page `first` on. They are fetched before any is looked up in the records, so that
-// no look waits for the one before it.
+// no look waits for the one before it. Two loops, each the faster one for its pages.
 pub fn fetch_stamps(
     chips: &[u8],
     g: Geometry,
@@ -114,14 +168,15 @@ pub fn fetch_stamps(
     tags: &mut [u16; 128],
     stripes: &mut [u16; 128],
 )
-    requires { ⌜ ChipsFit g (now chips) × (c ≤ g .n) × (first < pages (layoutOf g)) × (first + count ≤ pages (layoutOf g)) × (count ≤ 128)
-        × (length (now tags) ≡ 128) × (length (now stripes) ≡ 128) ⌝ }
+    requires { ⌜ Fetchable g (now chips) c first count × (length (now tags) ≡ 128) × (length (now stripes) ≡ 128) ⌝ }
     ensures { λ _. ⌜ StampsOf (pageAt (layoutOf g) (now (chips .entry)) c) first count (now (tags .exit)) (now (stripes .exit))
         × (length (now (tags .exit)) ≡ 128) × (length (now (stripes .exit)) ≡ 128) ⌝ }
 {
-    let mut stamps = [0u32; 128];
-    fetch_packed(chips, g, c, first, count, &mut stamps);
-    split_stamps(count, &stamps, tags, stripes);
+    if g.w < LINE {
+        fetch_together(chips, g, c, first, count, tags, stripes);
+    } else {
+        fetch_apart(chips, g, c, first, count, tags, stripes);
+    }
 }
 
 // None, as a number of two bytes.

@@ -5,8 +5,8 @@ use mathlib.Core.Path.{_≡_, refl}
 use lib.ListN.{length, length-set, getD}
 use borrow.Author.Needs.{needs}
 use Rattle.codec.proofs.Fetching.{Filled, fill-start, fill-more}
-use Rattle.codec.proofs.scan.split_stamps.Statement.{statement}
-use Rattle.codec.proofs.scan.split_stamps.Tie as tie
+use Rattle.codec.proofs.scan.split_words.Statement.{statement}
+use Rattle.codec.proofs.scan.split_words.Tie as tie
 
 abbrev Inv-loop : tie.InvT-loop
 Inv-loop count stamps tags₀ stripes₀ i₀ tags stripes i =
@@ -35,8 +35,8 @@ returns c =
       o .inv .2,
     )
 
-pub split-stamps-spec : {M : Type 1} → statement M
-split-stamps-spec =
+pub split-words-spec : {M : Type 1} → statement M
+split-words-spec =
     tie.close
     (tie.spec
     Inv-loop
