@@ -1,10 +1,10 @@
-//! Random calls on small images, sound ones and others: the tuned implementation must agree with the second
+//! Random calls on small images, sound ones and others: the third implementation must agree with the second
 //! one in answer, counts and every byte.
 
 use crate::breakers::BREAKERS;
 use crate::damage::change_byte;
 use crate::generator::{self, ALL};
-use crate::owned::{Calls, REFERENCE, TUNED};
+use crate::owned::{Calls, REFERENCE, THIRD, THIRD_NAME};
 use crate::random::Random;
 use crate::reference::{Geometry, Images, Shape, Status, NO_CHIP};
 use crate::trio::fail;
@@ -27,9 +27,9 @@ pub fn check() {
             let asked = Asked::any(random, shape, lost);
             let mut others = images.clone();
             let expected = asked.make(&REFERENCE, g, &mut images);
-            let found = asked.make(&TUNED, g, &mut others);
+            let found = asked.make(&THIRD, g, &mut others);
             if found != expected || others != images {
-                fail(&format!("tuned, case {case}, {g:?}, {asked:?}: {found:?}, expected {expected:?}"));
+                fail(&format!("{THIRD_NAME}, case {case}, {g:?}, {asked:?}: {found:?}, expected {expected:?}"));
             }
         }
     }

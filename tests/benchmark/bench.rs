@@ -17,7 +17,7 @@ pub struct Measured {
     pub row: Row,
     pub library: f64,
     pub reference: f64,
-    pub tuned: f64,
+    pub third: f64,
     pub floor: f64,
     pub settled: bool,
     pub counts: Status,
@@ -74,9 +74,9 @@ impl Bench {
 
     fn measured(&self, taken: &[Taken]) -> Vec<Measured> {
         let measured = |(known, taken): (&Known, &Taken)| {
-            let [library, reference, tuned, floor] = taken.best.map(|best| best.first);
+            let [library, reference, third, floor] = taken.best.map(|best| best.first);
             let settled = taken.best.iter().all(Best::settled);
-            Measured { row: known.row, library, reference, tuned, floor, settled, counts: known.counts }
+            Measured { row: known.row, library, reference, third, floor, settled, counts: known.counts }
         };
         self.rows.iter().zip(taken).map(measured).collect()
     }
@@ -115,7 +115,7 @@ struct Sides<'a> {
 
 const LIBRARY: usize = 0;
 const REFERENCE: usize = 1;
-const TUNED: usize = 2;
+const THIRD: usize = 2;
 
 impl Race for Sides<'_> {
     fn run(&mut self, turn: usize, repeats: usize) {
@@ -124,7 +124,7 @@ impl Race for Sides<'_> {
         let other = match turn {
             LIBRARY => self.trio.by_library(row.call, times),
             REFERENCE => self.trio.by_owner(By::Reference, row.call, times),
-            TUNED => self.trio.by_owner(By::Tuned, row.call, times),
+            THIRD => self.trio.by_owner(By::Third, row.call, times),
             _ => {
                 self.floor.run(row.scan, *counts, repeats);
                 None
@@ -140,7 +140,7 @@ impl Race for Sides<'_> {
         match turn {
             LIBRARY => self.trio.put_lent(&self.known.back),
             REFERENCE => self.trio.put_owned(By::Reference, &self.known.back),
-            TUNED => self.trio.put_owned(By::Tuned, &self.known.back),
+            THIRD => self.trio.put_owned(By::Third, &self.known.back),
             _ => self.floor.put(&self.known.back),
         }
     }

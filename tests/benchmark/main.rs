@@ -1,5 +1,6 @@
-//! How long each call takes: by the library, by the second implementation, by one tuned by hand, and beside
-//! the floor, which is a plain scan that touches each record and each spare once, and the pages moved.
+//! How long each call takes: by the library, by the second implementation, by one tuned by hand or by the
+//! library as it was, and beside the floor, which is a plain scan that touches each record and each spare
+//! once, and the pages moved.
 //!
 //!     benchmark [ROUNDS [W]] [sequence|shuffled] [swept|warm] [TABLE..] [--markdown]
 //!
@@ -26,6 +27,8 @@ mod random;
 mod reference;
 
 mod agree;
+#[cfg(before)]
+mod before;
 mod bench;
 mod clock;
 mod floor;
@@ -40,6 +43,7 @@ mod rows;
 mod setup;
 mod table;
 mod trio;
+#[cfg_attr(before, allow(dead_code))]
 mod tuned;
 
 use bench::{measure, Bench};

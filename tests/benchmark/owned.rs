@@ -1,7 +1,10 @@
 //! The implementations that own their images, as tables of their calls.
 
+#[cfg(before)]
+use crate::before as third;
 use crate::reference::{self, Geometry, Images, Status};
-use crate::tuned;
+#[cfg(not(before))]
+use crate::tuned as third;
 
 pub struct Calls {
     pub format: fn(Geometry, &mut Images, u64) -> Status,
@@ -21,11 +24,16 @@ pub const REFERENCE: Calls = Calls {
     collect: reference::collect,
 };
 
-pub const TUNED: Calls = Calls {
-    format: tuned::format,
-    open: tuned::open,
-    read: tuned::read,
-    write: tuned::write,
-    commit: tuned::commit,
-    collect: tuned::collect,
+/// The one tuned by hand; or the library as it was.
+pub const THIRD: Calls = Calls {
+    format: third::format,
+    open: third::open,
+    read: third::read,
+    write: third::write,
+    commit: third::commit,
+    collect: third::collect,
 };
+
+/// What the third is called, and its column.
+pub const THIRD_NAME: &str = if cfg!(before) { "before" } else { "tuned" };
+pub const THIRD_HEAD: &str = if cfg!(before) { "/before" } else { "/tuned" };

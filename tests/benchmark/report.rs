@@ -2,6 +2,7 @@
 
 use crate::bench::Measured;
 use crate::grid::Grid;
+use crate::owned::THIRD_NAME;
 use crate::plans::Plan;
 use crate::reference::Geometry;
 use crate::table::{cell, Line, Table};
@@ -140,7 +141,7 @@ type Other = (&'static str, fn(&Measured) -> f64);
 /// Whose times stand beside the library's, on the largest store.
 fn others(table: &Table) -> Vec<Other> {
     let mut others: Vec<Other> =
-        vec![("reference", |measured| measured.reference), ("tuned", |measured| measured.tuned)];
+        vec![("reference", |measured| measured.reference), (THIRD_NAME, |measured| measured.third)];
     if !table.plan.refused {
         others.push(("floor", |measured| measured.floor));
     }

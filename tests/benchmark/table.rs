@@ -3,6 +3,7 @@
 use crate::bench::Measured;
 use crate::clock::Caches;
 use crate::images::Order;
+use crate::owned::{THIRD_HEAD, THIRD_NAME};
 use crate::plans::Plan;
 use crate::reference::Geometry;
 use std::fmt;
@@ -58,11 +59,11 @@ const TO_REFERENCE: Ratio = Ratio {
     value: |_, measured, _| Some(measured.library / measured.reference),
 };
 
-const TO_TUNED: Ratio = Ratio {
-    head: "/tuned",
-    of: "tuned",
+const TO_THIRD: Ratio = Ratio {
+    head: THIRD_HEAD,
+    of: THIRD_NAME,
     aim: None,
-    value: |_, measured, _| Some(measured.library / measured.tuned),
+    value: |_, measured, _| Some(measured.library / measured.third),
 };
 
 const TO_FLOOR: Ratio = Ratio {
@@ -105,8 +106,8 @@ impl Table {
 
     pub fn ratios(&self) -> Vec<Ratio> {
         let mut ratios = match self.plan.refused {
-            true => vec![Ratio { aim: None, ..TO_REFERENCE }, TO_TUNED],
-            false => vec![TO_REFERENCE, TO_TUNED, TO_FLOOR],
+            true => vec![Ratio { aim: None, ..TO_REFERENCE }, TO_THIRD],
+            false => vec![TO_REFERENCE, TO_THIRD, TO_FLOOR],
         };
         if self.measured().any(|measured| measured.row.beside.is_some()) {
             ratios.push(TO_READ);

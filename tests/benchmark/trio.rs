@@ -1,8 +1,8 @@
-//! The same store three times, lent to the library and owned by the second and the tuned implementation, and
+//! The same store three times, lent to the library and owned by the second and the third implementation, and
 //! the calls of all.
 
 use crate::library::{self, Buffer, Lent, LentImages};
-use crate::owned::{Calls, REFERENCE, TUNED};
+use crate::owned::{Calls, REFERENCE, THIRD};
 use crate::patch::Patch;
 use crate::placed;
 use crate::random::Random;
@@ -66,7 +66,7 @@ struct Owner {
 #[derive(Clone, Copy)]
 pub enum By {
     Reference,
-    Tuned,
+    Third,
 }
 
 impl Trio {
@@ -83,7 +83,7 @@ impl Trio {
         Trio {
             geometry,
             shape,
-            owners: [owner(&REFERENCE), owner(&TUNED)],
+            owners: [owner(&REFERENCE), owner(&THIRD)],
             lent: (0..copies).map(|_| placed::lent_images(images)).collect(),
             lent_data: placed::lent(&data),
             lent_buffer: placed::lent(&buffer),
@@ -130,7 +130,7 @@ impl Trio {
         let mut times = Times { repeats: 1, allowance, expected: Status::default() };
         times.expected = self.by_owner(By::Reference, call, times).unwrap_or_default();
         let back = Patch::back(self.shape, &self.lent[0], self.images());
-        let found = [self.by_library(call, times), self.by_owner(By::Tuned, call, times)];
+        let found = [self.by_library(call, times), self.by_owner(By::Third, call, times)];
         if let Some(found) = found.into_iter().flatten().next() {
             fail(&format!("{found:?}, expected {:?}", times.expected));
         }
@@ -184,7 +184,7 @@ impl Trio {
 
     pub fn put(&mut self, patch: &Patch) {
         self.put_lent(patch);
-        [By::Reference, By::Tuned].into_iter().for_each(|by| self.put_owned(by, patch));
+        [By::Reference, By::Third].into_iter().for_each(|by| self.put_owned(by, patch));
     }
 
     pub fn put_lent(&mut self, patch: &Patch) {

@@ -18,10 +18,11 @@ use Rattle.ranges.proofs.Looks.{at-last, by-order}
 use Rattle.layout.specs.declared.Geometry.{Geometry}
 use Rattle.layout.specs.Layout.{layoutOf, limits, none, pages}
 use Rattle.layout.proofs.Limits.{within}
-use Rattle.layout.specs.Page.{Page, pageAt}
+use Rattle.layout.specs.Page.{pageAt}
 use Rattle.layout.proofs.Pages.{page-in-fits}
+use Rattle.codec.specs.Fit.{ChipsFit}
 use Rattle.codec.proofs.Offsets.{offset, page-high, page-within, PageIn, page-in}
-use Rattle.codec.specs.Scan.{TagIs, Fetchable, StampIs, PackedOf, SplitOf, StampsOf, numberOf}
+use Rattle.codec.specs.Scan.{TagIs, StampsOf, numberOf}
 
 -- ---- a list that a loop fills
 
@@ -68,28 +69,20 @@ TagAt chips a u m t = TagIs t (getD chips (a + m * u) 0) (getD chips (a + m * u 
 abbrev pub StripeAt : List ℕ → ℕ → ℕ → ℕ → ℕ → Type 0
 StripeAt chips a u m j = j ≡ number (part (a + m * u + 2) 2 chips)
 
--- and s the stamp
-abbrev pub StampAt : List ℕ → ℕ → ℕ → ℕ → ℕ → Type 0
-StampAt chips a u m s = StampIs s (getD chips (a + m * u) 0) (getD chips (a + m * u + 1) 0) (number (part (a + m * u + 2) 2 chips))
-
-module _ {g : Geometry} {chips : List ℕ} {c p n : ℕ} (h : Fetchable g chips c p n) where
+-- so many pages of chip c from p on are there
+module _ (g : Geometry) (chips : List ℕ) (fit : ChipsFit g chips) (c p n : ℕ) (chip : c ≤ g .n) (there : p + n ≤ pages (layoutOf g)) where
   -- the spare of page p + i is i pages behind that of page p
   spare-place : (i : ℕ) → offset g c p + g .w + i * (g .w + 8) ≡ offset g c (p + i) + g .w
   spare-place i =
       let e : c * pages (layoutOf g) + (p + i) ≡ c * pages (layoutOf g) + p + i = omega arith in
       rw (e, add-mul) (omega arith)
 
-  -- the first is at no large offset, and no page is long
-  pub start-within : (offset g c p + g .w ≤ 1882689480) × (g .w + 8 ≤ 4104)
-  start-within =
-      (omega (arith, page-high g c p (h .chip) (h .start) (h .fit .limited)), omega (arith, within (layoutOf g) (h .fit .limited) .bytes-high))
-
   -- it ends within the image, and its offset is no large number
   pub spare-within : (i : ℕ) → i < n
       → let a = offset g c p + g .w + i * (g .w + 8) in (a + 4 ≤ length chips) × (a ≤ 1882689480)
   spare-within i place =
-      let low : p + i < pages (layoutOf g) = omega (arith, h .there) in
-      rw spare-place (rw (h .fit .long) (omega (arith, page-within g c (p + i) (h .chip) low)), omega (arith, page-high g c (p + i) (h .chip) low (h .fit .limited)))
+      let low : p + i < pages (layoutOf g) = omega arith in
+      rw spare-place (rw (fit .long) (omega (arith, page-within g c (p + i) chip low)), omega (arith, page-high g c (p + i) chip low (fit .limited)))
 
   -- all tags and stripes from the first spare on are those of the pages
   pub fetch-all : {tags stripes : List ℕ} {i : ℕ}
@@ -97,29 +90,12 @@ module _ {g : Geometry} {chips : List ℕ} {c p n : ℕ} (h : Fetchable g chips 
       → Filled (StripeAt chips (offset g c p + g .w) (g .w + 8)) stripes i
       → i ≡ n
       → StampsOf (pageAt (layoutOf g) chips c) p n tags stripes
-  fetch-all t s e =
-      let page : (i : ℕ) → i < n → PageIn g chips c (p + i) = λ i place. page-in g chips c (p + i) (omega (arith, h .there)) in
+  fetch-all h s e =
+      let page : (i : ℕ) → i < n → PageIn g chips c (p + i) = λ i place. page-in g chips c (p + i) (omega arith) in
       record {
-        tag = λ i place. rw (page i place .kind, page i place .member, ← spare-place i) (t .at i (rw e place));
+        tag = λ i place. rw (page i place .kind, page i place .member, ← spare-place i) (h .at i (rw e place));
         stripe = λ i place. rw (page i place .stripe, ← spare-place i) (s .at i (rw e place));
       }
-
-  -- all stamps from the first spare on are those of the pages
-  pub packed-all : {stamps : List ℕ} {i : ℕ} → Filled (StampAt chips (offset g c p + g .w) (g .w + 8)) stamps i → i ≡ n
-      → PackedOf (pageAt (layoutOf g) chips c) p n stamps
-  packed-all s e = record {
-    is = λ i place.
-        let page = page-in g chips c (p + i) (omega (arith, h .there)) in
-        rw (page .kind, page .member, page .stripe, ← spare-place i) (s .at i (rw e place));
-  }
-
--- taken apart they are the tags and stripes
-pub split-all : {x : ℕ → Page} {first n : ℕ} {stamps tags stripes : List ℕ} → PackedOf x first n stamps → SplitOf n stamps tags stripes
-    → StampsOf x first n tags stripes
-split-all h s = record {
-  tag = λ i place. rw (s .tag i place) (h .is i place .tag);
-  stripe = λ i place. rw (s .stripe i place) (h .is i place .stripe);
-}
 
 -- ---- the numbers of a record
 

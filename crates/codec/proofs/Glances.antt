@@ -1,4 +1,4 @@
--- The short look at a record: what its first eight numbers and the two words behind them tell.
+-- Two looks at a record: what its first eight numbers and the two words behind them tell.
 use Prim.Native.Nat.{ℕ, _+_, _-_, _*_, _/_, _%_, _≤_, _<_}
 use native.Mathlib.Nat.{add-assoc}
 use native.Mathlib.Omega.{arith}
@@ -13,7 +13,7 @@ use Rattle.ranges.specs.Look.{allBelow, countBelow}
 use Rattle.ranges.proofs.Looks.{by-order, by-same, all-at, all-true}
 use Rattle.ranges.proofs.Counts.{count-fail, count-cong, count-zero, count-all, count-positive}
 use Rattle.ranges.proofs.Tallies.{same-tests, count-from}
-use Rattle.ranges.proofs.Tests.{chain, chain-all, under, unless-equal}
+use Rattle.ranges.proofs.Tests.{under, unless-equal}
 use Rattle.bytes.specs.Number.{number}
 use Rattle.bytes.specs.Units.{part}
 use Rattle.bytes.proofs.Lists.{number-two}
@@ -26,7 +26,7 @@ use Rattle.codec.specs.Views.{sixAt, recordFrom}
 use Rattle.codec.specs.declared.StripeRecord.{StripeRecord}
 use Rattle.codec.proofs.Sizes.{bounded}
 use Rattle.codec.proofs.Encodings.{six-is, six-in, six-number, number-four, recordIn, record-in, rest-in, ended-same}
-use Rattle.codec.specs.Scan.{Ranges, WordAt, currentGiven, Plain, Glanced, numberAt, numberIn, isWritten, writtenIn}
+use Rattle.codec.specs.Scan.{Ranges, WordAt, Clear, currentGiven, Plain, numberAt, numberIn, isWritten, writtenIn}
 
 -- ---- a record with nothing in the partial parity, as the code reads it
 
@@ -78,11 +78,11 @@ in-range {n} {pages} {tops} r m x h small t d =
     (λ b. let top = rw (le-ltb m n b) at (r .is m h) in absurd (d (omega arith)))
 
 -- the parity page is below the pages
-parity-low : (p pages : ℕ) → eqb p 65535 || ltb p pages ≡ true → p ≢ 65535 → p < pages
+pub parity-low : (p pages : ℕ) → eqb p 65535 || ltb p pages ≡ true → p ≢ 65535 → p < pages
 parity-low p pages t d = ltb-true p pages (unless-equal p 65535 (ltb p pages) t d)
 
 -- without one there are no pages
-no-parity : (p names : ℕ) → not (eqb p 65535) || eqb names 0 ≡ true → p ≡ 65535 → names ≡ 0
+pub no-parity : (p names : ℕ) → not (eqb p 65535) || eqb names 0 ≡ true → p ≡ 65535 → names ≡ 0
 no-parity p names t q = eqb-true names 0 (under (eqb p 65535) (eqb names 0) t (eq-eqb p 65535 q))
 
 -- a number that is written is within its range, and a page exactly if a member's
@@ -162,96 +162,65 @@ module _ {g : Geometry} {xs tops : List ℕ} {a : ℕ} (k : Looked g xs tops a) 
       let there : givenIn xs a m ≡ true = rw (counted m (omega arith), ne-eqb (numberIn xs a m) 65535 d) in
       (member, page, λ q. omega (arith, without q, count-positive 8 (givenIn xs a) m (omega arith) there))
 
-  -- the old numbers are none: two are the last of the eight, and four the word behind them
-  no-olds : WordAt xs (a + 16) 18446744073709551615 → (m : ℕ) → m < 6 → getD (sixAt (a + 12) xs) m 0 ≡ 65535
-  no-olds w = six-is (λ m. 65535)
+  -- the old numbers are none: two are the last of the eight
+  no-olds : Clear xs a → (m : ℕ) → m < 6 → getD (sixAt (a + 12) xs) m 0 ≡ 65535
+  no-olds c = six-is (λ m. 65535)
       (beyond 6 (omega arith) (omega arith))
       (rw add-assoc (beyond 7 (omega arith) (omega arith)))
-      (rw add-assoc (omega arith))
-      (rw (add-assoc a 12 6, ← add-assoc a 16 2) (omega arith))
-      (rw (add-assoc a 12 8, ← add-assoc a 16 4) (omega arith))
-      (rw (add-assoc a 12 10, ← add-assoc a 16 6) (omega arith))
+      (rw add-assoc (c .third))
+      (rw add-assoc (c .fourth))
+      (rw add-assoc (c .fifth))
+      (rw add-assoc (c .sixth))
 
   -- so the record is bare
-  bare : {last : ℕ} → WordAt xs (a + 16) 18446744073709551615 → WordAt xs (a + 24) last → last / 65536 ≡ 65280
-      → (last % 65536 ≢ 65535 → last % 65536 < g .b * g .k) → (last % 65536 ≡ 65535 → countBelow 8 (givenIn xs a) ≡ 0)
+  bare : {p : ℕ} → p ≡ numberAt xs (a + 24) → Clear xs a → (p ≢ 65535 → p < g .b * g .k) → (p ≡ 65535 → countBelow 8 (givenIn xs a) ≡ 0)
       → Bare g (recordIn xs a)
-  bare {last} olds word ends low without =
-      let parity : last % 65536 ≡ numberAt xs (a + 24) = omega arith in
-      let fourth : numberAt xs (a + 24 + 6) ≡ 0 = omega arith in
-      let third : numberAt xs (a + 24 + 4) ≡ 0 = omega arith in
-      let second : numberAt xs (a + 26) ≡ 65280 = rw (← add-assoc a 24 2) (omega arith) in
+  bare is c low without = record {
+    current = λ m h. rw (six-number a xs m h, ← is) (current-page without m h);
+    old = no-olds c;
+    parity = rw is at low;
+    bitmap = c .bitmap;
+    slot = c .slot;
+  }
+
+-- ---- two words make the ending clear
+
+module _ {xs : List ℕ} {a : ℕ} (long : a + 32 ≤ length xs) (bytes : (i : ℕ) → getD xs i 0 < 256) where
+  pub clear : {olds last : ℕ} → WordAt xs (a + 16) olds → WordAt xs (a + 24) last → olds ≡ 18446744073709551615 → last / 65536 ≡ 65280 → Clear xs a
+  clear old-word word none-old ends =
       let two : numberAt xs (a + 26) ≡ getD xs (a + 26) 0 + 256 * getD xs (a + 27) 0 =
       rw (← add-assoc a 26 1) (number-two xs (a + 26) (omega arith)) in
+      let second : numberAt xs (a + 26) ≡ 65280 = rw (← add-assoc a 24 2) (omega arith) in
       record {
-        current = λ m h. rw (six-number a xs m h, ← parity) (current-page without m h);
-        old = no-olds olds;
-        parity = rw parity at low;
-        bitmap = omega (arith, k .bytes (a + 26), k .bytes (a + 27));
-        slot = omega (arith, k .bytes (a + 26), k .bytes (a + 27));
+        third = omega arith;
+        fourth = rw (← add-assoc a 16 2) (omega arith);
+        fifth = rw (← add-assoc a 16 4) (omega arith);
+        sixth = rw (← add-assoc a 16 6) (omega arith);
+        bitmap = omega (arith, bytes (a + 26), bytes (a + 27));
+        slot = omega (arith, bytes (a + 26), bytes (a + 27));
+        rest = rw (number-four (a + 28) xs, add-assoc a 28 2, ← add-assoc a 24 4, ← add-assoc a 24 6) (omega arith);
       }
 
-  -- and ends in zeros
-  no-rest : {last : ℕ} → WordAt xs (a + 24) last → last / 65536 ≡ 65280 → number (part (a + 28) 4 xs) ≡ 0
-  no-rest word ends = rw (number-four (a + 28) xs, add-assoc a 28 2, ← add-assoc a 24 4, ← add-assoc a 24 6) (omega arith)
+-- ---- what the looks tell of record j, with its parity number p
 
--- ---- the tests
-
-module _ (g : Geometry) (olds last : ℕ) (low : Bool) (names : ℕ) where
-  -- those after the first of the code's tests
-  abbrev otherTests : List Bool
-  otherTests =
-      eqb olds 18446744073709551615
-      ∷ eqb (last / 65536) 65280
-      ∷ (eqb (last % 65536) 65535 || ltb (last % 65536) (g .b * g .k))
-      ∷ (not (eqb (last % 65536) 65535) || eqb names 0)
-      ∷ []
-
-  -- the code's tests
-  abbrev pub plainTests : Bool
-  plainTests = chain low otherTests
-
-module _ {g : Geometry} {xs tops : List ℕ} {j olds last : ℕ} (fit : RecordsFit g xs) (stripe : j < g .s)
-    (ranges : Ranges (g .n) (g .b * g .k) tops) (bytes : (i : ℕ) → getD xs i 0 < 256)
-    (old-word : WordAt xs (j * 32 + 16) olds) (word : WordAt xs (j * 32 + 24) last) where
-  -- record j is plain where it passes them
-  passes : let names = countBelow 8 (givenIn xs (j * 32)) in
-      plainTests g olds last (allBelow 8 (lowIn tops xs (j * 32))) names ≡ true
-      → Plain (layoutOf g) (recordAt (layoutOf g) xs j) (names + cond (eqb (last % 65536) 65535) 0 1)
+module _ {g : Geometry} {xs tops : List ℕ} {j p : ℕ} (fit : RecordsFit g xs) (stripe : j < g .s)
+    (ranges : Ranges (g .n) (g .b * g .k) tops) (bytes : (i : ℕ) → getD xs i 0 < 256) (is : p ≡ numberAt xs (j * 32 + 24)) where
+  -- it is plain where its ending is clear, its numbers are within their ranges, and there are none without a parity page
+  pub plain : Clear xs (j * 32) → allBelow 8 (lowIn tops xs (j * 32)) ≡ true
+      → (p ≢ 65535 → p < g .b * g .k) → (p ≡ 65535 → countBelow 8 (givenIn xs (j * 32)) ≡ 0)
+      → Plain (layoutOf g) (recordAt (layoutOf g) xs j) (countBelow 8 (givenIn xs (j * 32)) + cond (eqb p 65535) 0 1)
   unfolding recordsLength
-  passes e =
-      let names = countBelow 8 (givenIn xs (j * 32)) in
-      let lows = allBelow 8 (lowIn tops xs (j * 32)) in
-      let p = last % 65536 in
-      let h = chain-all lows (otherTests g olds last lows names) e in
+  plain ends lows low without =
       let k : Looked g xs tops (j * 32) =
-      record { limited = fit .limited; ranges = ranges; long = omega (arith, fit .long); bytes = bytes; lows = h .0 } in
-      let ends = eqb-true (last / 65536) 65280 (h .1 .1 .0) in
-      let b = bare k
-      (rw (eqb-true olds 18446744073709551615 (h .1 .0)) at old-word)
-      word
-      ends
-      (parity-low p (g .b * g .k) (h .1 .1 .1 .0))
-      (no-parity p names (h .1 .1 .1 .1 .0)) in
-      let parity : p ≡ numberAt xs (j * 32 + 24) = omega arith in
-      let is = record-in g xs j stripe ∙ ended-same (rest-in g xs j stripe ∙ no-rest k word ends) in
-      rw (← is, counts k, parity) (bare-plain b)
+      record { limited = fit .limited; ranges = ranges; long = omega (arith, fit .long); bytes = bytes; lows = lows } in
+      let b = bare k is ends low without in
+      let same = record-in g xs j stripe ∙ ended-same (rest-in g xs j stripe ∙ ends .rest) in
+      rw (← same, counts k, is) (bare-plain b)
 
   -- so it is where all members are written and the parity page is there
-  pub full : eqb olds 18446744073709551615 && eqb (last / 65536) 65280 && ltb (last % 65536) (g .b * g .k)
-      && allBelow 8 (writtenIn tops xs (j * 32)) ≡ true
+  pub full : Clear xs (j * 32) → p < g .b * g .k → allBelow 8 (writtenIn tops xs (j * 32)) ≡ true
       → Plain (layoutOf g) (recordAt (layoutOf g) xs j) (g .n + 1)
-  full e =
-      let p = last % 65536 in
-      let h = chain-all (eqb olds 18446744073709551615) (eqb (last / 65536) 65280 ∷ ltb p (g .b * g .k) ∷ allBelow 8 (writtenIn tops xs (j * 32)) ∷ []) e in
-      let below = ltb-true p (g .b * g .k) (h .1 .1 .0) in
+  full ends low all =
       let limit = bounded g (fit .limited) in
-      let (lows, count) = all-written ranges (omega arith) (limit .pages) (omega arith) xs (j * 32) (h .1 .1 .1 .0) in
-      let there = ne-eqb p 65535 (omega arith) in
-      rw (count, there) at (passes (rw (lows, h .0, h .1 .0, there, h .1 .1 .0)))
-
-  -- what the look tells, where all is the count with the parity page
-  pub glanced : {low : Bool} {count all : ℕ} → low ≡ allBelow 8 (lowIn tops xs (j * 32)) → count ≡ countBelow 8 (givenIn xs (j * 32))
-      → all ≡ count + cond (eqb (last % 65536) 65535) 0 1 → all ≤ 9
-      → Glanced (layoutOf g) (recordAt (layoutOf g) xs j) (record { plain = plainTests g olds last low count; names = all })
-  glanced p q r few = record { found = rw (r, p, q) passes; few = few }
+      let (lows, count) = all-written ranges (omega arith) (limit .pages) (omega arith) xs (j * 32) all in
+      rw (count, ne-eqb p 65535 (omega arith)) at (plain ends lows (λ d. low) (λ q. absurd (omega (arith, low, limit .pages))))

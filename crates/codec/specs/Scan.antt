@@ -9,12 +9,9 @@ use lib.Dec.{ltb, eqb}
 use Rattle.bytes.specs.Number.{number}
 use Rattle.bytes.specs.Units.{part}
 use Rattle.ranges.specs.Look.{countBelow}
-use Rattle.layout.specs.declared.Geometry.{Geometry}
-use Rattle.layout.specs.Layout.{Layout, layoutOf, none, isNone, pages}
-use Rattle.layout.specs.Page.{Page, cleanKind}
+use Rattle.layout.specs.Layout.{Layout, none, isNone, pages}
+use Rattle.layout.specs.Page.{Page, isCleanKind}
 use Rattle.layout.specs.Record.{Record, noSlot}
-use Rattle.codec.specs.Fit.{ChipsFit}
-use Rattle.codec.specs.declared.scan.Glance.{Glance}
 
 -- ---- the stamps of pages
 
@@ -28,29 +25,7 @@ tagOf k m = k + 256 * m
 
 -- the page with this tag is clean
 abbrev pub cleanTag : ℕ → Bool
-cleanTag t = eqb (t % 256) cleanKind
-
--- chip c has so many pages from the first on, no more than the arrays for their stamps hold
-pub record Fetchable (g : Geometry) (chips : List ℕ) (c first count : ℕ) : Type 0 where
-  pub fit : ChipsFit g chips
-  pub chip : c ≤ g .n
-  pub start : first < pages (layoutOf g)
-  pub there : first + count ≤ pages (layoutOf g)
-  pub few : count ≤ 128
-
--- the stamp s is the tag of kind k and member m, and behind it the stripe j
-pub record StampIs (s k m j : ℕ) : Type 0 where
-  pub tag : TagIs (s % 65536) k m
-  pub stripe : s / 65536 % 65536 ≡ j
-
--- the stamps of so many pages from the first on, with the chip's pages x
-pub record PackedOf (x : ℕ → Page) (first count : ℕ) (stamps : List ℕ) : Type 0 where
-  pub is : (i : ℕ) → i < count → StampIs (getD stamps i 0) (x (first + i) .kind) (x (first + i) .member) (x (first + i) .stripe)
-
--- so many stamps, taken apart
-pub record SplitOf (count : ℕ) (stamps tags stripes : List ℕ) : Type 0 where
-  pub tag : (i : ℕ) → i < count → getD tags i 0 ≡ getD stamps i 0 % 65536
-  pub stripe : (i : ℕ) → i < count → getD stripes i 0 ≡ getD stamps i 0 / 65536 % 65536
+cleanTag t = isCleanKind (t % 256)
 
 -- the tags and stripes of so many pages from the first on, with the chip's pages x
 pub record StampsOf (x : ℕ → Page) (first count : ℕ) (tags stripes : List ℕ) : Type 0 where
@@ -102,6 +77,16 @@ pub record WordAt (xs : List ℕ) (a r : ℕ) : Type 0 where
   pub third : numberAt xs (a + 4) < 65536
   pub fourth : numberAt xs (a + 6) < 65536
 
+-- the record at offset a has none of its last four old numbers, no bit, no slot, and zeros at its end
+pub record Clear (xs : List ℕ) (a : ℕ) : Type 0 where
+  pub third : numberAt xs (a + 16) ≡ 65535
+  pub fourth : numberAt xs (a + 18) ≡ 65535
+  pub fifth : numberAt xs (a + 20) ≡ 65535
+  pub sixth : numberAt xs (a + 22) ≡ 65535
+  pub bitmap : getD xs (a + 26) 0 ≡ 0
+  pub slot : getD xs (a + 27) 0 ≡ noSlot
+  pub rest : number (part (a + 28) 4 xs) ≡ 0
+
 module _ (l : Layout) (e : Record) where
   open Layout l using (N)
 
@@ -119,8 +104,3 @@ module _ (l : Layout) (e : Record) where
     pub slot : e .slot ≡ noSlot
     pub rest : e .rest ≡ 0
     pub counted : names ≡ countBelow 6 currentGiven + cond (isNone l (e .parity)) 0 1
-
-  -- the look says plain only of such a record; its count is small whatever it says, so that a sum does not overflow
-  pub record Glanced (r : Glance) : Type 0 where
-    pub found : r .plain ≡ true → Plain (r .names)
-    pub few : r .names ≤ 9

@@ -17,7 +17,7 @@ ghost use lib.ListN.{length, getD};
 ghost use lib.Dec.{eqb};
 ghost use Rattle.layout.specs.Layout.{layoutOf, limits, pages};
 ghost use Rattle.layout.specs.Rotation.{parityChip, memberChip, memberOn};
-ghost use Rattle.layout.specs.Page.{cleanKind, clean, pageAt};
+ghost use Rattle.layout.specs.Page.{isCleanKind, clean, pageAt};
 ghost use Rattle.layout.specs.Record.{recordAt};
 ghost use Rattle.layout.specs.Collection.{collectionAt};
 ghost use Rattle.layout.specs.Images.{slotAt, chipsLength};
@@ -165,7 +165,7 @@ pub fn spare_at(chips: &[u8], g: Geometry, c: usize, p: usize) -> Spare
 
 // Whether a page of this kind is clean.
 fn is_clean_kind(kind: u16) -> bool
-    ensures { λ r. ⌜ r ≡ eqb kind cleanKind ⌝ }
+    ensures { λ r. ⌜ r ≡ isCleanKind kind ⌝ }
 {
     kind == CLEAN
 }

@@ -14,16 +14,15 @@ use bytes::number_at;
 use layout::Geometry;
 ghost use mathlib.Core.Path.{_≡_};
 ghost use mathlib.Core.Bool.{true};
-ghost use Prim.Native.Nat.{_+_, _*_, _≤_, _<_};
+ghost use mathlib.Core.List.{List};
+ghost use Prim.Native.Nat.{ℕ, _+_, _*_, _≤_, _<_};
 ghost use lib.ListN.{length, getD};
-ghost use Rattle.bytes.specs.Number.{number};
-ghost use Rattle.bytes.specs.Units.{part};
 ghost use Rattle.ranges.specs.Look.{allBelow};
 ghost use Rattle.layout.specs.Layout.{layoutOf, limits, pages};
 ghost use Rattle.layout.specs.Page.{pageAt};
 ghost use Rattle.layout.specs.Record.{recordAt};
 ghost use Rattle.codec.specs.Fit.{ChipsFit, RecordsFit};
-ghost use Rattle.codec.specs.Scan.{TagIs, tagOf, cleanTag, Fetchable, StampIs, PackedOf, SplitOf, StampsOf, lastNumber, numberOf, Ranges, WordAt, writtenIn, Plain, Glanced};
+ghost use Rattle.codec.specs.Scan.{TagIs, tagOf, cleanTag, StampsOf, lastNumber, numberOf, Ranges, WordAt, Clear, writtenIn, Plain};
 
 // The numbers of a record by their index: from 0 on the current pages, then the old ones, then the parity page. No index stands for no
 // number.
@@ -64,8 +63,9 @@ fn tag_at(chips: &[u8], a: usize) -> u16
     (byte(chips, a) + 256 * byte(chips, a + MEMBER_AT)) as u16
 }
 
-// The tags and stripes of pages that are longer than a line of the processor's caches.
-fn fetch_apart(
+// The tags and stripes of so many pages of chip c, from page `first` on. They are fetched before any is looked up in the records, so that
+// no look waits for the one before it.
+pub fn fetch_stamps(
     chips: &[u8],
     g: Geometry,
     c: usize,
@@ -74,7 +74,8 @@ fn fetch_apart(
     tags: &mut [u16; 128],
     stripes: &mut [u16; 128],
 )
-    requires { ⌜ Fetchable g (now chips) c first count × (length (now tags) ≡ 128) × (length (now stripes) ≡ 128) ⌝ }
+    requires { ⌜ ChipsFit g (now chips) × (c ≤ g .n) × (first < pages (layoutOf g)) × (first + count ≤ pages (layoutOf g)) × (count ≤ 128)
+        × (length (now tags) ≡ 128) × (length (now stripes) ≡ 128) ⌝ }
     ensures { λ _. ⌜ StampsOf (pageAt (layoutOf g) (now (chips .entry)) c) first count (now (tags .exit)) (now (stripes .exit))
         × (length (now (tags .exit)) ≡ 128) × (length (now (stripes .exit)) ≡ 128) ⌝ }
 {
@@ -89,96 +90,6 @@ fn fetch_apart(
     }
 }
 
-// The stamp of the page whose spare begins at offset a: its tag, and behind it its stripe.
-fn stamp_at(chips: &[u8], a: usize) -> u32
-    requires { ⌜ a + 4 ≤ length (now chips) ⌝ }
-    ensures { λ r. ⌜ StampIs r (getD (now (chips .entry)) a 0) (getD (now (chips .entry)) (a + 1) 0) (number (part (a + 2) 2 (now (chips .entry)))) ⌝ }
-{
-    (byte(chips, a)
-        + 256 * byte(chips, a + MEMBER_AT)
-        + 65536 * number_at(chips, a + STRIPE_AT)) as u32
-}
-
-// The stamps of so many pages of chip c, from page `first` on.
-fn fetch_words(
-    chips: &[u8],
-    g: Geometry,
-    c: usize,
-    first: usize,
-    count: usize,
-    stamps: &mut [u32; 128],
-)
-    requires { ⌜ Fetchable g (now chips) c first count × (length (now stamps) ≡ 128) ⌝ }
-    ensures { λ _. ⌜ PackedOf (pageAt (layoutOf g) (now (chips .entry)) c) first count (now (stamps .exit)) ⌝ }
-{
-    let w = g.w as usize;
-    let start = page_offset(g, c, first) + w;
-    let mut i = 0;
-    while i < count {
-        let a = start + i * (w + SPARE_BYTES);
-        stamps[i] = stamp_at(chips, a);
-        i += 1;
-    }
-}
-
-// The tags and stripes of so many stamps.
-fn split_words(count: usize, stamps: &[u32; 128], tags: &mut [u16; 128], stripes: &mut [u16; 128])
-    requires { ⌜ (count ≤ 128) × (length (now tags) ≡ 128) × (length (now stripes) ≡ 128) ⌝ }
-    ensures { λ _. ⌜ SplitOf count (now (stamps .entry)) (now (tags .exit)) (now (stripes .exit))
-        × (length (now (tags .exit)) ≡ 128) × (length (now (stripes .exit)) ≡ 128) ⌝ }
-{
-    let mut i = 0;
-    while i < count {
-        tags[i] = (stamps[i] % 65536) as u16;
-        stripes[i] = (stamps[i] / 65536 % 65536) as u16;
-        i += 1;
-    }
-}
-
-// The tags and stripes of shorter pages, with one load for each page. They stand in an array between, or the compiler would load twice.
-fn fetch_together(
-    chips: &[u8],
-    g: Geometry,
-    c: usize,
-    first: usize,
-    count: usize,
-    tags: &mut [u16; 128],
-    stripes: &mut [u16; 128],
-)
-    requires { ⌜ Fetchable g (now chips) c first count × (length (now tags) ≡ 128) × (length (now stripes) ≡ 128) ⌝ }
-    ensures { λ _. ⌜ StampsOf (pageAt (layoutOf g) (now (chips .entry)) c) first count (now (tags .exit)) (now (stripes .exit))
-        × (length (now (tags .exit)) ≡ 128) × (length (now (stripes .exit)) ≡ 128) ⌝ }
-{
-    let mut stamps = [0u32; 128];
-    fetch_words(chips, g, c, first, count, &mut stamps);
-    split_words(count, &stamps, tags, stripes);
-}
-
-// A line of the processor's caches.
-const LINE: u64 = 64;
-
-// The tags and stripes of so many pages of chip c, from page `first` on. They are fetched before any is looked up in the records, so that
-// no look waits for the one before it. Two loops, each the faster one for its pages.
-pub fn fetch_stamps(
-    chips: &[u8],
-    g: Geometry,
-    c: usize,
-    first: usize,
-    count: usize,
-    tags: &mut [u16; 128],
-    stripes: &mut [u16; 128],
-)
-    requires { ⌜ Fetchable g (now chips) c first count × (length (now tags) ≡ 128) × (length (now stripes) ≡ 128) ⌝ }
-    ensures { λ _. ⌜ StampsOf (pageAt (layoutOf g) (now (chips .entry)) c) first count (now (tags .exit)) (now (stripes .exit))
-        × (length (now (tags .exit)) ≡ 128) × (length (now (stripes .exit)) ≡ 128) ⌝ }
-{
-    if g.w < LINE {
-        fetch_together(chips, g, c, first, count, tags, stripes);
-    } else {
-        fetch_apart(chips, g, c, first, count, tags, stripes);
-    }
-}
-
 // None, as a number of two bytes.
 const NO_PAGE: u16 = NONE as u16;
 
@@ -190,14 +101,6 @@ const NO_OLDS: usize = 18446744073709551615;
 
 // What follows the parity page's number in a plain record: bitmap 0, slot 255, four bytes of 0.
 const NO_PARTIAL: usize = 65280;
-
-// What a short look at a record brings.
-pub struct Glance {
-    // nothing is in the partial parity, and every number is one that may be there; where this is false, nothing is known
-    pub plain: bool,
-    // how many page numbers it has, where it is plain
-    pub names: usize,
-}
 
 // For each of the first eight numbers of a plain record, how many pages it may be one of: all for a member's current number, 0 for
 // the others, the first two old ones among them. Eight, for as many are compared in one step.
@@ -244,49 +147,62 @@ fn all_written(records: &[u8], a: usize, tops: &[u16; 8]) -> bool
     written
 }
 
-// A record behind its first eight numbers.
-struct Tail {
+// How a record goes on behind its first eight numbers: two words.
+struct Ending {
     // the last four old numbers
     olds: usize,
-    // the parity page's number, and what follows it
+    // the parity page's number, and all that follows it
     last: usize,
 }
 
-// The tail of the record at offset a.
-fn tail_at(records: &[u8], a: usize) -> Tail
+// The same of the record at offset a.
+fn ending_at(records: &[u8], a: usize) -> Ending
     requires { ⌜ a + 32 ≤ length (now records) ⌝ }
     ensures { λ r. ⌜ WordAt (now (records .entry)) (a + 16) (r .olds) × WordAt (now (records .entry)) (a + 24) (r .last) ⌝ }
 {
-    Tail {
+    Ending {
         olds: word_at(records, a + NINTH_AT),
         last: word_at(records, a + PARITY_AT),
     }
 }
 
-// Most stripes are full: all members are written, the parity page is there, and nothing is in the partial parity. Where a short look finds
-// stripe j so, its record has one page number for each chip.
-pub fn is_full(records: &[u8], g: Geometry, j: usize, tops: &[u16; 8]) -> bool
+// Whether a record that ends so has none of these old numbers, nothing in the partial parity, and zeros behind.
+fn is_clear(end: Ending) -> bool
+    ensures { λ r. ⌜ (r ≡ true → ((xs : List ℕ) (a : ℕ) → a + 32 ≤ length xs → ((i : ℕ) → getD xs i 0 < 256)
+        → WordAt xs (a + 16) (end .olds) → WordAt xs (a + 24) (end .last) → Clear xs a)) ⌝ }
+{
+    (end.olds == NO_OLDS) & (end.last / 65536 == NO_PARTIAL)
+}
+
+// Most stripes are full: all members are written, the parity page is there, and nothing is in the partial parity. Where a first look finds
+// stripe j so, its record has one page number for each chip; where it does not, nothing is known.
+pub fn seen_full(records: &[u8], g: Geometry, j: usize, tops: &[u16; 8]) -> bool
     requires { ⌜ RecordsFit g (now records) × (j < g .s) × Ranges (g .n) (g .b * g .k) (now tops) ⌝ }
     ensures { λ r. ⌜ (r ≡ true → Plain (layoutOf g) (recordAt (layoutOf g) (now (records .entry)) j) (g .n + 1)) ⌝ }
 {
     let a = j * RECORD_BYTES;
     let pages = (g.b * g.k) as usize;
-    let tail = tail_at(records, a);
-    (tail.olds == NO_OLDS)
-        & (tail.last / 65536 == NO_PARTIAL)
-        & (tail.last % 65536 < pages)
-        & all_written(records, a, tops)
+    let end = ending_at(records, a);
+    is_clear(end) & (end.last % 65536 < pages) & all_written(records, a, tops)
 }
 
-// A longer look may tell that a record has nothing in the partial parity; where it does not, nothing is said of it.
+// What a second look at a record brings.
+pub struct Glance {
+    // nothing is in the partial parity, and every number is one that may be there; where this is false, nothing is known
+    pub plain: bool,
+    // how many page numbers it has, where it is plain
+    pub names: usize,
+}
+
+// A second look, at the record of a stripe that is not full.
 pub fn glance_at(records: &[u8], g: Geometry, j: usize, tops: &[u16; 8]) -> Glance
     requires { ⌜ RecordsFit g (now records) × (j < g .s) × Ranges (g .n) (g .b * g .k) (now tops) ⌝ }
-    ensures { λ r. ⌜ Glanced (layoutOf g) (recordAt (layoutOf g) (now (records .entry)) j) r ⌝ }
+    ensures { λ r. ⌜ (r .plain ≡ true → Plain (layoutOf g) (recordAt (layoutOf g) (now (records .entry)) j) (r .names)) ⌝ }
 {
     let a = j * RECORD_BYTES;
     let pages = (g.b * g.k) as usize;
-    let tail = tail_at(records, a);
-    let parity = tail.last % 65536;
+    let end = ending_at(records, a);
+    let parity = end.last % 65536;
     let bare = parity == NONE;
     let mut low = true;
     let mut names: usize = 0;
@@ -300,11 +216,7 @@ pub fn glance_at(records: &[u8], g: Geometry, j: usize, tops: &[u16; 8]) -> Glan
         }
         m += 1;
     }
-    let plain = low
-        & (tail.olds == NO_OLDS)
-        & (tail.last / 65536 == NO_PARTIAL)
-        & (bare | (parity < pages))
-        & (!bare | (names == 0));
+    let plain = low & is_clear(end) & (bare | (parity < pages)) & (!bare | (names == 0));
     if !bare {
         names += 1;
     }

@@ -26,20 +26,18 @@ pub fn set_bits(g: Geometry, bitmap: usize) -> usize
     p
 }
 
-// Whether at least half of the members, rounded up, are in the partial parity.
-pub fn most_in_partial(g: Geometry, p: usize) -> bool
-    requires { ⌜ limits (layoutOf g) ≡ true ⌝ }
-    ensures { λ r. ⌜ r ≡ mostInPartial (layoutOf g) p ⌝ }
+// Whether at least half of n members, rounded up, are in the partial parity.
+pub fn most_in_partial(n: usize, p: usize) -> bool
+    requires { ⌜ n ≤ 6 ⌝ }
+    ensures { λ r. ⌜ r ≡ mostInPartial n p ⌝ }
 {
-    let n = g.n as usize;
     (n + 1) / 2 <= p
 }
 
-// The cost of a commit with so many members in the bitmap.
-pub fn cost_of(g: Geometry, p: usize) -> usize
-    requires { ⌜ (limits (layoutOf g) ≡ true) × (p ≤ g .n) ⌝ }
-    ensures { λ r. ⌜ (r ≡ costOf (layoutOf g) p) × (r < 8) ⌝ }
+// The cost of a commit with p of n members in the bitmap.
+pub fn cost_of(n: usize, p: usize) -> usize
+    requires { ⌜ (n ≤ 6) × (p ≤ n) ⌝ }
+    ensures { λ r. ⌜ (r ≡ costOf n p) × (r < 8) ⌝ }
 {
-    let n = g.n as usize;
-    if most_in_partial(g, p) { n - p } else { p + 1 }
+    if most_in_partial(n, p) { n - p } else { p + 1 }
 }

@@ -32,8 +32,11 @@ abbrev pub parityKind : ℕ
 parityKind = 80
 
 -- "A page is clean when its kind is 255."
+abbrev pub isCleanKind : ℕ → Bool
+isCleanKind kind = eqb kind cleanKind
+
 abbrev pub clean : Page → Bool
-clean x = eqb (x .kind) cleanKind
+clean x = isCleanKind (x .kind)
 
 module _ (l : Layout) where
   open Layout l using (W, D)

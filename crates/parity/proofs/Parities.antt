@@ -112,11 +112,11 @@ module _ (g : Geometry) (w : Within (layoutOf g)) (chips slots : List ℕ) (j : 
   abbrev r : Record
   r = recordFrom l e
 
-  cost-few : costOf l (setBits l r) ≤ mostReads
+  cost-few : costOf (l .N) (setBits l r) ≤ mostReads
   unfolding costOf setBits
   cost-few =
       let few = count-le (g .n) (bit r) in
-      by-test (mostInPartial l (setBits l r)) (λ t. rw t (omega (arith, w .members-high))) (λ t. rw t (omega (arith, w .members-high)))
+      by-test (mostInPartial (l .N) (setBits l r)) (λ t. rw t (omega (arith, w .members-high))) (λ t. rw t (omega (arith, w .members-high)))
 
   parity-few : parityIn g chips slots j e .reads ≤ mostReads
   parity-few = rw (parity-fed l w (pageAt l chips) (slotAt l slots) j r) (omega (arith, commit-reads l r, cost-few))
@@ -130,13 +130,13 @@ module _ (g : Geometry) (w : Within (layoutOf g)) (chips slots : List ℕ) (j : 
 
   module _ {before : List ℕ} (slot : before ≡ slotAt l slots (r .slot)) where
     -- "partial ⊕ pages not in the bitmap"
-    pub parity-outside : mostInPartial l (setBits l r) ≡ true → {after : List ℕ} {reads : ℕ}
+    pub parity-outside : mostInPartial (l .N) (setBits l r) ≡ true → {after : List ℕ} {reads : ℕ}
         → after ≡ before ⊕ membersIn g chips slots j e false .bytes → reads ≡ membersIn g chips slots j e false .reads → IsParity after reads
     unfolding newParity
     parity-outside t bytes reads = is-parity (rw (t, bytes, slot)) (rw (t, reads, zero-add))
 
     -- "partial ⊕ old parity ⊕ old pages of the bitmap"
-    pub parity-inside : mostInPartial l (setBits l r) ≡ false → {work after : List ℕ} {got : Got} {reads : ℕ}
+    pub parity-inside : mostInPartial (l .N) (setBits l r) ≡ false → {work after : List ℕ} {got : Got} {reads : ℕ}
         → Into (fetchRole l (pageAt l chips) (slotAt l slots) j r noChip Parity) before work got
         → after ≡ work ⊕ membersIn g chips slots j e true .bytes → reads ≡ membersIn g chips slots j e true .reads → IsParity after (got .reads + reads)
     unfolding newParity

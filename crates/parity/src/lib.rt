@@ -80,7 +80,7 @@ fn new_parity(
         × (r ≡ parityIn g (now (chips .entry)) (now (slots .entry)) j e .reads) × (r ≤ mostReads) ⌝ }
 {
     copy(work, slot_data(slots, g, e.slot));
-    if most_in_partial(g, set_bits(g, e.bitmap)) {
+    if most_in_partial(g.n as usize, set_bits(g, e.bitmap)) {
         return gather_members(work, chips, slots, g, j, e, false);
     }
     let got = fetch(work, chips, slots, g, NO_CHIP, j, e, Role::Parity);

@@ -52,6 +52,10 @@ module _ {l : Layout} {e : Record} {names : ℕ} (p : Plain l e names) where
       let (member, page, committed) = p .current m h d in
       rw (no-bit, no-old, ne-eqb (e .current m) (none l) d, lt-ltb (e .current m) (pages l) page, lt-ltb m N member, ne-eqb (e .parity) (none l) committed))
 
+  -- it has few page numbers
+  pub plain-few : names ≤ 7
+  plain-few = omega (arith, p .counted, count-le 6 (currentGiven l e), one-most (isNone l (e .parity)))
+
   -- so it is sound
   pub plain-sound : recordSound l e ≡ true
   unfolding recordSound

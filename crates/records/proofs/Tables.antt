@@ -31,7 +31,7 @@ use Rattle.names.proofs.Totals.{on-few, chip-none, chip-more}
 use Rattle.records.specs.declared.Tally.{Tally}
 use Rattle.records.specs.declared.SlotScan.{SlotScan}
 use Rattle.codec.specs.Scan.{Plain}
-use Rattle.records.proofs.Plains.{plain-sound, plain-names, plain-full}
+use Rattle.records.proofs.Plains.{plain-sound, plain-names, plain-few, plain-full}
 use Rattle.records.specs.Slots.{slotScan, unmarked, Tallied, Adds}
 
 -- ---- the tally
@@ -104,21 +104,25 @@ pub looked-names : (g : Geometry) (r : Record) (e : StripeRecord) {more : ℕ} �
 unfolding ended recordNames
 looked-names g r e same m = rw same at (m g)
 
--- a full stripe has a number for each chip that is there
-pub each-few : (n lost : ℕ) {each : ℕ} → each ≡ cond (ltb n lost) (n + 1) n → each ≤ n + 1
-each-few n lost e = by-test (ltb n lost) (λ t. omega (arith, rw t at e)) (λ t. omega (arith, rw t at e))
+-- of the numbers of record j, so many are on the lost chip
+pub gone-few : (g : Geometry) (r : ℕ → Record) (lost j : ℕ) {gone more : ℕ} → limits (layoutOf g) ≡ true → gone ≡ namesLost (layoutOf g) r lost j
+    → more ≡ recordNames (layoutOf g) (r j) → gone ≤ more
+unfolding namesLost
+gone-few g r lost j limited x m =
+    let l = layoutOf g in
+    by-test (leb lost (g .n))
+    (λ b. omega (arith, rw b at x, on-few l (within l limited) r j lost (leb-true lost (g .n) b)))
+    (λ b. omega (arith, rw b at x))
+
+-- the numbers of a full stripe of n members on the chips that are there
+abbrev pub fullNames : ℕ → ℕ → ℕ
+fullNames n lost = cond (ltb n lost) (n + 1) n
+
+pub full-few : (n lost : ℕ) → fullNames n lost ≤ n + 1
+full-few n lost = by-test (ltb n lost) (λ t. rw t (omega arith)) (λ t. rw t (omega arith))
 
 module _ {g : Geometry} {r : ℕ → Record} {lost j : ℕ} {seen : List Bool} {t : Tally} {names : ℕ} (limited : limits (layoutOf g) ≡ true)
     (p : Passed g r lost j seen t names) where
-  -- of the numbers of record j, so many are on the lost chip
-  pub gone-few : {gone more : ℕ} → gone ≡ namesLost (layoutOf g) r lost j → more ≡ recordNames (layoutOf g) (r j) → gone ≤ more
-  unfolding namesLost
-  gone-few x m =
-      let l = layoutOf g in
-      by-test (leb lost (g .n))
-      (λ b. omega (arith, rw b at x, on-few l (within l limited) r j lost (leb-true lost (g .n) b)))
-      (λ b. omega (arith, rw b at x))
-
   -- the names with those of record j that are not
   more-names : {gone more : ℕ} → gone ≡ namesLost (layoutOf g) r lost j → more ≡ recordNames (layoutOf g) (r j)
       → names + (more - gone) + lostBelow g r lost (j + 1) ≡ namesIn (layoutOf g) r (j + 1)
@@ -126,33 +130,32 @@ module _ {g : Geometry} {r : ℕ → Record} {lost j : ℕ} {seen : List Bool} {
   more-names x m =
       let l = layoutOf g in
       let total : namesIn l r (j + 1) ≡ namesIn l r j + recordNames l (r j) = rw add-one (sum-more j (λ i. recordNames l (r i))) in
-      let few = gone-few x m in
+      let few = gone-few g r lost j limited x m in
       by-test (leb lost (g .n))
       (λ b. rw (total, b, chip-more l (within l limited) r lost j) (omega (arith, m, rw b at x, rw b at (p .named))))
       (λ b. rw (total, b) (omega (arith, m, rw b at x, rw b at (p .named))))
 
   -- record j is plain: the tally stays
-  pub passed-plain : {gone more : ℕ} → Plain (layoutOf g) (r j) more → more ≤ 9 → gone ≡ namesLost (layoutOf g) r lost j
+  pub passed-plain : {gone more : ℕ} → Plain (layoutOf g) (r j) more → gone ≡ namesLost (layoutOf g) r lost j
       → Passed g r lost (j + 1) seen t (names + (more - gone))
-  passed-plain e most x =
+  passed-plain e x =
       record {
         tally = rw and-true at (tallied-bare (p .tally) (sym (plain-sound e)) (e .slot));
         table = marks-skip (p .table) (e .slot);
         named = more-names x (plain-names e);
-        few = omega (arith, p .few);
+        few = omega (arith, p .few, plain-few e);
       }
 
   -- it is that of a full stripe: it has a number for each chip that is there
-  pub passed-full : {each : ℕ} → Plain (layoutOf g) (r j) (g .n + 1) → each ≡ cond (ltb (g .n) lost) (g .n + 1) (g .n)
-      → Passed g r lost (j + 1) seen t (names + each)
+  pub passed-full : Plain (layoutOf g) (r j) (g .n + 1) → Passed g r lost (j + 1) seen t (names + fullNames (g .n) lost)
   unfolding namesLost
-  passed-full {each} e is =
+  passed-full e =
       let l = layoutOf g in
-      let one : each ≡ g .n + 1 - namesLost l r lost j =
+      let one : fullNames (g .n) lost ≡ g .n + 1 - namesLost l r lost j =
       by-order (g .n) lost
-      (λ h. rw (is, lt-ltb (g .n) lost h, lt-leb lost (g .n) h) (omega arith))
-      (λ h. rw (is, le-ltb (g .n) lost h, le-leb lost (g .n) h, plain-full e (within l limited .members-high) refl r j lost refl h) (omega arith)) in
-      rw one (passed-plain e (omega (arith, within l limited .members-high)) refl)
+      (λ h. rw (lt-ltb (g .n) lost h, lt-leb lost (g .n) h) (omega arith))
+      (λ h. rw (le-ltb (g .n) lost h, le-leb lost (g .n) h, plain-full e (within l limited .members-high) refl r j lost refl h) (omega arith)) in
+      rw one (passed-plain e refl)
 
   -- it is looked at in full
   pub passed-next : {e : StripeRecord} {ends : Bool} {more gone : ℕ} {next : Tally}

@@ -9,8 +9,8 @@ use codec::collection_ends;
 use codec::record_at;
 use codec::record_ends;
 use codec::scan::glance_at;
-use codec::scan::is_full;
 use codec::scan::ranges;
+use codec::scan::seen_full;
 use costs::cost_of;
 use costs::set_bits;
 use layout::Geometry;
@@ -167,7 +167,7 @@ fn with_record(g: Geometry, j: usize, e: StripeRecord, ends: bool, taken: bool, 
             cheapest: least,
         };
     }
-    let cheapest = with_next(least, j, true, cost_of(g, set_bits(g, e.bitmap)));
+    let cheapest = with_next(least, j, true, cost_of(g.n as usize, set_bits(g, e.bitmap)));
     Tally {
         sound,
         own: t.own & !taken,
@@ -217,7 +217,7 @@ fn slots_told(t: Tally, seen: &[bool; 256], m: usize) -> SlotScan
 }
 
 // Whether the records are sound, how many page numbers they have on the chips that are there, and what they tell of the slots: one pass,
-// with a table of the slots seen. Of a record that is found plain only the page numbers matter; of a full stripe not even these.
+// with a table of the slots seen. Of a record that is found plain only the page numbers matter, and of a full stripe they need no count.
 pub fn scan_records(g: Geometry, records: &[u8], lost: usize) -> RecordsScan
     requires { ⌜ RecordsFit g (now records) ⌝ }
     ensures { λ r. ⌜ (r .sound ≡ recordsSound (layoutOf g) (recordAt (layoutOf g) (now (records .entry))) (collectionAt (layoutOf g) (now (records .entry))))
@@ -228,14 +228,15 @@ pub fn scan_records(g: Geometry, records: &[u8], lost: usize) -> RecordsScan
     let n = g.n as usize;
     let most = g.m as usize;
     let tops = ranges(g);
-    let each = if n < lost { n + 1 } else { n };
+    // those of a full stripe on the chips that are there
+    let full = if n < lost { n + 1 } else { n };
     let mut seen = [false; 256];
     let mut tally = no_tally();
     let mut names: usize = 0;
     let mut j = 0;
     while j < s {
-        if is_full(records, g, j, &tops) {
-            names += each;
+        if seen_full(records, g, j, &tops) {
+            names += full;
         } else {
             let look = glance_at(records, g, j, &tops);
             let gone = names_lost(records, g, lost, j);

@@ -20,7 +20,7 @@ module _ (l : Layout) where
   unfoldable pub newParity : (Role → Feed) → List ℕ → Record → Feed
   newParity page partial r =
       xored (given partial)
-      (cond (mostInPartial l (setBits l r))
+      (cond (mostInPartial (l .N) (setBits l r))
       (membersFeed l (λ m. not (bit r m)) (λ m. page (Current m)))
       (xored (page Parity) (membersFeed l (bit r) (λ m. page (Old m)))))
 

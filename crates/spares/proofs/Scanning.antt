@@ -14,8 +14,8 @@ use borrow.Author.Tests.{eq-eqb, ne-eqb, lt-ltb, le-ltb}
 use Rattle.ranges.specs.declared.Least.{Least}
 use Rattle.ranges.specs.Look.{allBelow, someBelow, countBelow, leastSoFar}
 use Rattle.ranges.proofs.Counts.{count-start, count-le}
-use Rattle.ranges.proofs.Looks.{at-last, by-order, all-cong}
-use Rattle.ranges.proofs.Tests.{or-right, cond-same}
+use Rattle.ranges.proofs.Looks.{at-last, by-order, by-test, all-true, all-at, all-cong}
+use Rattle.ranges.proofs.Tests.{or-right, or-else, cond-same}
 use Rattle.layout.specs.Layout.{Layout, pageIn}
 use Rattle.layout.specs.Page.{Page}
 use Rattle.layout.specs.Record.{Record}
@@ -91,6 +91,16 @@ module _ (l : Layout) {x : ℕ → Page} (b o first : ℕ) {tags stripes : List 
   pub fill-tags : record { clean = allBelow K (freeTag tags o); full = allBelow K (usedTag tags o) } ≡ fillOf l x b
   unfolding fillOf cleanBlock fullBlock
   fill-tags = rw (all-cong K (freeTag tags o) (cleanIn l x b) free-is, all-cong K (usedTag tags o) (usedIn l x b) (λ i low. rw (free-is i low)))
+
+-- a block that is wholly clean, or full, is in order
+pub alike-ordered : (l : Layout) (x : ℕ → Page) (b : ℕ) {f : Fill} → f ≡ fillOf l x b → f .clean || f .full ≡ true → orderedBlock l x b ≡ true
+unfolding fillOf cleanBlock fullBlock orderedBlock
+alike-ordered l x b e t =
+    let K = l .K in
+    all-true (K - 1) (inOrder l x b)
+    (λ i low. by-test (allBelow K (cleanIn l x b))
+    (λ clean. or-right (usedIn l x b i) (all-at K (cleanIn l x b) clean (i + 1) (omega arith)))
+    (λ some. rw (all-at K (usedIn l x b) (or-else (allBelow K (cleanIn l x b)) (allBelow K (usedIn l x b)) (rw e at t) some) i (omega arith))))
 
 -- order, fill and the number of names make the scan of the block
 pub block-scan : (l : Layout) (r : ℕ → Record) (x : ℕ → Page) (c b : ℕ) {o : Bool} {f : Fill} {named : ℕ}

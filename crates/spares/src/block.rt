@@ -203,8 +203,11 @@ pub fn scan_block(
         → r ≡ blockScan (layoutOf g) (recordAt (layoutOf g) (now (records .entry))) x c b) ⌝ }
 {
     let fill = fill_of(g, o, tags);
+    // nearly all blocks are, and then no page is out of order
+    let alike = fill.clean | fill.full;
+    let ordered = if alike { true } else { is_ordered(g, o, tags) };
     Scan {
-        ordered: is_ordered(g, o, tags),
+        ordered,
         clean: fill.clean,
         full: fill.full,
         named: count_named(records, g, first, o, stripes, fields),

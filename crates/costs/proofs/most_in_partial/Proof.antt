@@ -1,8 +1,6 @@
 -- The comparison is that of the definition.
 use native.Mathlib.Omega.{arith}
 use mathlib.Core.Path.{refl}
-use Rattle.layout.specs.Layout.{layoutOf}
-use Rattle.layout.proofs.Limits.{within}
 use Rattle.costs.proofs.most_in_partial.Statement.{statement}
 use Rattle.costs.proofs.most_in_partial.Tie as tie
 
@@ -10,4 +8,4 @@ returns : tie.Need-returns
 returns c = refl
 
 pub most-in-partial-spec : {M : Type 1} → statement M
-most-in-partial-spec = tie.close (tie.spec (λ c. omega (arith, within (layoutOf (c .args .g)) (c .pre) .members-high)) returns)
+most-in-partial-spec = tie.close (tie.spec (λ c. omega arith) returns)

@@ -37,12 +37,12 @@ first c = c .before .before .before .before .copy .ensures ∙ c .before .before
 told : (c : tie.After-most-in-partial)
     → let a = start c .args in
     let l = layoutOf (a .g) in
-    mostInPartial l (setBits l (recordFrom l (a .e))) ≡ c .most-in-partial .result
+    mostInPartial (l .N) (setBits l (recordFrom l (a .e))) ≡ c .most-in-partial .result
 unfolding recordFrom
 told c =
     let a = start c .args in
     let l = layoutOf (a .g) in
-    sym (c .most-in-partial .ensures ∙ ap (mostInPartial l) (c .before .set-bits .ensures .0 (recordFrom l (a .e)) refl))
+    sym (c .most-in-partial .ensures ∙ ap (mostInPartial (l .N)) (c .before .set-bits .ensures .0 (recordFrom l (a .e)) refl))
 
 returns : tie.Need-returns
 returns c =
@@ -68,7 +68,7 @@ new-parity-spec =
     slot-data-requires
     (λ c κs. search needs)
     (λ c κs. search needs)
-    (λ c κs. search needs)
+    (λ c κs. let s = c .before .before .before .before .before .before .before .before .before in within (layoutOf (s .args .g)) (s .pre .0 .limited) .members-high)
     (λ c κs. search needs)
     (λ c. search needs)
     returns

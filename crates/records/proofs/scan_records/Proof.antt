@@ -3,9 +3,7 @@
 use Prim.Native.Nat.{_+_, _-_, _≤_}
 use native.Mathlib.Omega.{arith}
 use mathlib.Core.Path.{_≡_}
-use mathlib.Core.Bool.{cond}
 use mathlib.Core.Logic.{⊎-elim}
-use lib.Dec.{ltb}
 use borrow.Author.Needs.{needs}
 use borrow.Author.Tests.{lt-ltb, le-ltb}
 use Rattle.ranges.proofs.Counts.{count-le}
@@ -13,17 +11,17 @@ use Rattle.layout.specs.Layout.{layoutOf}
 use Rattle.layout.specs.Record.{recordAt, slotted}
 use Rattle.layout.specs.Collection.{collectionAt}
 use Rattle.layout.proofs.Limits.{Within, within}
-use Rattle.records.proofs.Plains.{plain-names}
-use Rattle.records.proofs.Tables.{Passed, each-few, gone-few, looked-names, passed-start, passed-full, passed-plain, passed-next, passed-names, passed-all, passed-slots}
+use Rattle.records.proofs.Plains.{plain-names, plain-few}
+use Rattle.records.proofs.Tables.{Passed, fullNames, full-few, gone-few, looked-names, passed-start, passed-full, passed-plain, passed-next, passed-names, passed-all, passed-slots}
 use Rattle.records.proofs.scan_records.Statement.{statement}
 use Rattle.records.proofs.scan_records.Tie as tie
 
 abbrev Inv-loop : tie.InvT-loop
-Inv-loop g records lost s n most tops each seen₀ tally₀ names₀ j₀ seen tally names j =
-    (j ≤ g .s) × Passed g (recordAt (layoutOf g) records) lost j seen tally names × (each ≡ cond (ltb (g .n) lost) (g .n + 1) (g .n))
+Inv-loop g records lost s n most tops full seen₀ tally₀ names₀ j₀ seen tally names j =
+    (j ≤ g .s) × Passed g (recordAt (layoutOf g) records) lost j seen tally names × (full ≡ fullNames (g .n) lost)
 
 abbrev μ-loop : tie.MeasureT-loop
-μ-loop g records lost s n most tops each seen₀ tally₀ names₀ j₀ seen tally names j = g .s - j
+μ-loop g records lost s n most tops full seen₀ tally₀ names₀ j₀ seen tally names j = g .s - j
 
 -- what the function was called with, before the loop
 abbrev start : tie.At-loop Inv-loop μ-loop → tie.Start Inv-loop μ-loop
@@ -46,18 +44,18 @@ add-names c =
     let o = c .before .before .before .before .before in
     let few = limits o .stripes-high in
     let width = limits o .members-high in
-    omega (arith, o .loop .inv .1 .few, each-few (start o .args .g .n) (start o .args .lost) (o .loop .inv .2))
+    omega (arith, o .loop .inv .1 .few, o .loop .inv .2, full-few (start o .args .g .n) (start o .args .lost))
 
 sub-names : tie.Need-sub-names Inv-loop μ-loop
 sub-names c =
     let o = c .before .before .before .before .before .before .before .before .before in
-    gone-few (start o .pre .limited) (o .loop .inv .1) (c .before .before .names-lost .ensures) (plain-names (c .before .before .before .glance-at .ensures .found (c .before .if3 .taken)))
+    gone-few _ _ _ _ (start o .pre .limited) (c .before .before .names-lost .ensures) (plain-names (c .before .before .before .glance-at .ensures (c .before .if3 .taken)))
 
 add-names-2 : tie.Need-add-names-2 Inv-loop μ-loop
 add-names-2 c =
     let o = c .before .before .before .before .before .before .before .before .before in
     let few = limits o .stripes-high in
-    omega (arith, o .loop .inv .1 .few, c .before .before .before .glance-at .ensures .few)
+    omega (arith, o .loop .inv .1 .few, plain-few (c .before .before .before .glance-at .ensures (c .before .if3 .taken)))
 
 with-record-requires : tie.Need-with-record-requires Inv-loop μ-loop
 with-record-requires c κs =
@@ -71,7 +69,7 @@ sub-names-2 c =
     let o = c .before .before .before .before .before .before .before .before .before .before .before .before in
     let a = start o .args in
     let e = c .before .before .before .record-at .result in
-    gone-few (start o .pre .limited) (o .loop .inv .1) (c .before .before .before .before .before .names-lost .ensures)
+    gone-few _ _ _ _ (start o .pre .limited) (c .before .before .before .before .before .names-lost .ensures)
     (looked-names (a .g) (recordAt (layoutOf (a .g)) (a .records .now) (o .loop .j)) e (c .before .before .before .record-at .ensures .0) (c .names-of .ensures .0))
 
 add-names-3 : tie.Need-add-names-3 Inv-loop μ-loop
@@ -86,11 +84,9 @@ loop-again c =
     let limited = start o .pre .limited in
     let p = o .loop .inv .1 in
     ⊎-elim
-    (λ w. (omega arith, rw (w .2, w .3, w .4) (passed-full limited p (c .before .is-full .ensures (w .0 .taken)) (o .loop .inv .2)), o .loop .inv .2))
+    (λ w. (omega arith, rw (w .2, w .3, w .4) (rw (o .loop .inv .2) (passed-full limited p (c .before .seen-full .ensures (w .0 .taken)))), o .loop .inv .2))
     (⊎-elim
-    (λ w.
-    let look = w .2 .ensures in
-    (omega arith, rw (w .6, w .7, w .8) (passed-plain limited p (look .found (w .4 .taken)) (look .few) (w .3 .ensures)), o .loop .inv .2))
+    (λ w. (omega arith, rw (w .6, w .7, w .8) (passed-plain limited p (w .2 .ensures (w .4 .taken)) (w .3 .ensures)), o .loop .inv .2))
     (λ w. (omega arith, rw (w .9, w .10, w .11) (passed-next limited p (w .5 .ensures) (w .6 .ensures) (w .8 .ensures) (w .7 .ensures) (w .3 .ensures)), o .loop .inv .2)))
     (c .if2 .came)
 

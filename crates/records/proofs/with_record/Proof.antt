@@ -7,6 +7,7 @@ use lib.Dec.{eqb}
 use borrow.Author.Needs.{needs}
 use Rattle.ranges.proofs.Tests.{differ-by}
 use Rattle.layout.specs.Layout.{layoutOf}
+use Rattle.layout.proofs.Limits.{within}
 use Rattle.layout.specs.Record.{Record}
 use Rattle.rules.specs.Sound.{soundAt}
 use Rattle.codec.specs.Views.{recordFrom, ended}
@@ -41,7 +42,12 @@ returns-2 c = record {
       tallied-slot h (sound-here (c .before .before .before .before .before .before .before .before .before) r same ends) d (seen (differ-by _ 255 d)) cost (c .before .before .with-next .ensures);
 }
 
+cost-of-requires : tie.Need-cost-of-requires
+cost-of-requires c κs =
+    let s = c .before .before .before .before .before .before in
+    (within (layoutOf (s .args .g)) (s .pre .0) .members-high, c .set-bits .ensures .1)
+
 pub with-record-spec : {M : Type 1} → statement M
 with-record-spec =
     tie.close
-    (tie.spec (λ c κs. search needs) returns (λ c κs. search needs) (λ c κs. search needs) (λ c κs. search needs) (λ c. search needs) returns-2)
+    (tie.spec (λ c κs. search needs) returns (λ c κs. search needs) cost-of-requires (λ c κs. search needs) (λ c. search needs) returns-2)

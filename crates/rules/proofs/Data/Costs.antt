@@ -28,9 +28,9 @@ module _ (l : Layout) where
   unfolding oldInside
   no-old r m e = by-test (bit r m) (λ t. t) (λ t. both false (rw (t, eq-eqb (none l) (none l) refl) at e) refl)
 
-  pub commit-reads : (r : Record) → parityReads l r ≤ costOf l (setBits l r)
+  pub commit-reads : (r : Record) → parityReads l r ≤ costOf (l .N) (setBits l r)
   unfolding parityReads costOf gatheredReads setBits
   commit-reads r =
-      by-test (mostInPartial l (setBits l r))
+      by-test (mostInPartial (l .N) (setBits l r))
       (λ t. rw t (omega (arith, count-apart N (isPage l (currentOutside l r)) (bit r) (λ m h. no-current r m))))
       (λ t. rw t (omega (arith, reads-one (r .parity), count-implies N (isPage l (oldInside l r)) (bit r) (λ m h. no-old r m))))

@@ -196,7 +196,7 @@ module _ (l : Layout) where
         let x = slotAt l (s .slots) (r .slot) in
         let parity = itself l y (parityChip l j) (r .parity) .bytes in
         let old = gathered l y j (oldInside l r) .bytes in
-        by-test (mostInPartial l (setBits l r))
+        by-test (mostInPartial (l .N) (setBits l r))
         (λ e. rw e (length-xors-left x (gathered l y j (currentOutside l r) .bytes) (omega (arith, length-slot t, short (currentOutside l r) (numbered-outside l w r sound))) ∙ length-slot t))
         (λ e. rw e
         (length-xors-left x (parity ⊕ old)

@@ -57,13 +57,13 @@ module _ (l : Layout) where
   unfoldable pub parityBytes : (ℕ → ℕ → Page) → (ℕ → List ℕ) → ℕ → Record → List ℕ
   parityBytes y z j r =
       z (r .slot)
-      ⊕ cond (mostInPartial l (setBits l r))
+      ⊕ cond (mostInPartial (l .N) (setBits l r))
       (gathered l y j (currentOutside r) .bytes)
       (itself l y (parityChip l j) (r .parity) .bytes ⊕ gathered l y j (oldInside r) .bytes)
 
   unfoldable pub parityReads : Record → ℕ
   parityReads r =
-      cond (mostInPartial l (setBits l r))
+      cond (mostInPartial (l .N) (setBits l r))
       (gatheredReads (currentOutside r))
       (readsAt (r .parity) + gatheredReads (oldInside r))
 
@@ -143,7 +143,7 @@ module _ (l : Layout) where
     pub parity-fed : newParity l page (z (r .slot)) r ≡ record { bytes = parityBytes y z j r; reads = parityReads r }
     unfolding newParity parityBytes parityReads
     parity-fed =
-        by-test (mostInPartial l (setBits l r))
+        by-test (mostInPartial (l .N) (setBits l r))
         (λ t. rw (t, currents-are, zero-add))
         (λ t. rw (t, olds-are, page-there Parity (parity-chip-fits l j), itself-reads y (parityChip l j) (r .parity), zero-add))
 

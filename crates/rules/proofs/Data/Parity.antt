@@ -287,7 +287,7 @@ module _ (l : Layout) (w : Within l) (y : ℕ → ℕ → Page) (whole : Whole l
   unfolding parityBytes
   new-parity-is s =
       let all = ap (λ x. x ⊕ gathered l y j (currentOutside l r) .bytes) (d .partial s) ∙ inside-outside l y j r in
-      by-test (mostInPartial l (setBits l r))
+      by-test (mostInPartial (l .N) (setBits l r))
       (λ t. rw t all)
       (λ t. rw (t, d .parity, ← old-outside l y j r)
       (cancel-around (z (r .slot)) (gathered l y j (oldInside l r) .bytes) (gathered l y j (currentOutside l r) .bytes)

@@ -35,9 +35,9 @@ module _ (l : Layout) where
     -- "page 6 on chip 2, page 7 on 4, page 16 on 1"
     pub pages : N ≡ 4 → Rows (chipOf l) ((6, 2) ∷ (7, 4) ∷ (16, 1) ∷ [])
     -- "cost at N = 4 for p = 1 to 4: 2, 2, 1, 0"
-    pub costs-at-four : N ≡ 4 → Rows (costOf l) ((1, 2) ∷ (2, 2) ∷ (3, 1) ∷ (4, 0) ∷ [])
+    pub costs-at-four : N ≡ 4 → Rows (costOf (l .N)) ((1, 2) ∷ (2, 2) ∷ (3, 1) ∷ (4, 0) ∷ [])
     -- "N = 5, p = 1 to 5: 2, 3, 2, 1, 0"
-    pub costs-at-five : N ≡ 5 → Rows (costOf l) ((1, 2) ∷ (2, 3) ∷ (3, 2) ∷ (4, 1) ∷ (5, 0) ∷ [])
+    pub costs-at-five : N ≡ 5 → Rows (costOf (l .N)) ((1, 2) ∷ (2, 3) ∷ (3, 2) ∷ (4, 1) ∷ (5, 0) ∷ [])
     -- "771 × 85 pages accepted; 512 × 128 is refusal 1": page numbers have two bytes
     pub pages-accepted : sizes l ≡ true → D ≡ 2 → B ≡ 771 → K ≡ 85 → 1 ≤ S → 1 ≤ M → M ≤ 254 → S + M + 1 ≤ 770 * 85 → Accepted
     pub pages-refused : D ≡ 2 → B ≡ 512 → K ≡ 128 → Refusal1
@@ -48,11 +48,11 @@ module _ (l : Layout) where
     pub first : 1 ≤ D → D ≤ 4 → (s : Images) (allowance : ℕ) → verdict (formatCall l s allowance .answer) ≡ done
         → (i : ℕ) → i < N * S → (xs : List ℕ) → length xs ≡ W → FirstWrite l (formatCall l s allowance .images) i xs
 
-  four-costs : N ≡ 4 → Rows (costOf l) ((1, 2) ∷ (2, 2) ∷ (3, 1) ∷ (4, 0) ∷ [])
+  four-costs : N ≡ 4 → Rows (costOf (l .N)) ((1, 2) ∷ (2, 2) ∷ (3, 1) ∷ (4, 0) ∷ [])
   unfolding costOf
   four-costs e = rw e (refl, (refl, (refl, (refl, tt))))
 
-  five-costs : N ≡ 5 → Rows (costOf l) ((1, 2) ∷ (2, 3) ∷ (3, 2) ∷ (4, 1) ∷ (5, 0) ∷ [])
+  five-costs : N ≡ 5 → Rows (costOf (l .N)) ((1, 2) ∷ (2, 3) ∷ (3, 2) ∷ (4, 1) ∷ (5, 0) ∷ [])
   unfolding costOf
   five-costs e = rw e (refl, (refl, (refl, (refl, (refl, tt)))))
 

@@ -30,13 +30,11 @@ fetch-stamps-requires : tie.Need-fetch-stamps-requires Inv-loop μ-loop
 fetch-stamps-requires c κs =
     let s = c .before .before .before .before in
     let a = s .args in (
-      record {
-        fit = s .pre .0;
-        chip = s .pre .2;
-        start = omega (arith, page-in-fits (layoutOf (a .g)) (a .from) 0 (omega arith) (omega (arith, within (layoutOf (a .g)) (s .pre .0 .limited) .places-low)));
-        there = omega (arith, together-end (a .g .k) (s .pre .3), mul-le-mul-right (a .g .k) (s .pre .4));
-        few = s .pre .5;
-      },
+      s .pre .0,
+      s .pre .2,
+      omega (arith, page-in-fits (layoutOf (a .g)) (a .from) 0 (omega arith) (omega (arith, within (layoutOf (a .g)) (s .pre .0 .limited) .places-low))),
+      omega (arith, together-end (a .g .k) (s .pre .3), mul-le-mul-right (a .g .k) (s .pre .4)),
+      s .pre .5,
       refl,
       refl,
     )

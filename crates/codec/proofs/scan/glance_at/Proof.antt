@@ -1,31 +1,32 @@
--- The loop's invariant: the flag and the count are those of the numbers below m. What they tell together with the two words is in Glances.
-use Prim.Native.Nat.{ℕ, _≤_, _-_, _+_, _*_, _%_}
+-- The loop's invariant: the flag and the count are those of the numbers below m. What they tell together with the ending is in Glances.
+use Prim.Native.Nat.{ℕ, _≤_, _<_, _-_, _+_, _*_, _%_}
 use native.Mathlib.Numerals.{add-one}
 use native.Mathlib.Omega.{arith}
-use mathlib.Core.Path.{_≡_, refl}
-use mathlib.Core.Bool.{not, cond}
+use mathlib.Core.Path.{_≡_, refl, sym, _∙_}
+use mathlib.Core.Bool.{true, not, cond, _&&_, _||_}
 use mathlib.Core.Logic.{⊎-elim}
-use lib.ListN.{length}
-use lib.Dec.{eqb}
+use lib.ListN.{length, getD}
+use lib.Dec.{eqb, ltb}
 use borrow.Author.Needs.{needs}
 use borrow.Author.Tests.{eq-eqb, ne-eqb, not-true, not-false}
 use Rattle.ranges.specs.Look.{allBelow, countBelow}
 use Rattle.ranges.proofs.Tallies.{ones, count-more}
+use Rattle.ranges.proofs.Tests.{and-both}
 use Rattle.layout.specs.Layout.{layoutOf}
 use Rattle.layout.specs.Record.{recordAt}
-use Rattle.codec.specs.Scan.{Glanced}
+use Rattle.codec.specs.Scan.{Plain}
 use Rattle.codec.proofs.Sizes.{bounded}
 use Rattle.codec.proofs.Offsets.{record-within}
-use Rattle.codec.proofs.Glances.{next, lowIn, givenIn, plainTests, glanced}
+use Rattle.codec.proofs.Glances.{next, lowIn, givenIn, parity-low, no-parity, plain}
 use Rattle.codec.proofs.scan.glance_at.Statement.{statement}
 use Rattle.codec.proofs.scan.glance_at.Tie as tie
 
 abbrev Inv-loop : tie.InvT-loop
-Inv-loop records j tops a pages tail parity bare low₀ names₀ m₀ low names m =
+Inv-loop records j tops a pages end parity bare low₀ names₀ m₀ low names m =
     (m ≤ 8) × (low ≡ allBelow m (lowIn tops records a)) × (names ≡ countBelow m (givenIn records a)) × (names ≤ m)
 
 abbrev μ-loop : tie.MeasureT-loop
-μ-loop records j tops a pages tail parity bare low₀ names₀ m₀ low names m = 8 - m
+μ-loop records j tops a pages end parity bare low₀ names₀ m₀ low names m = 8 - m
 
 -- the record ends within the image
 fits : (c : tie.Start Inv-loop μ-loop) → c .args .j * 32 + 32 ≤ length (c .args .records .now)
@@ -55,35 +56,41 @@ loop-again c =
       ⊎-elim (λ w. omega arith) (λ w. omega arith) (c .if1 .came),
     )
 
--- after the loop the look is whole; count is the names with the parity page
-whole : (c : tie.After-loop Inv-loop μ-loop) {count : ℕ}
-    → let a = c .before .before .before .before .before .before .args in
-    let loop = c .before .loop in
-    let tail = c .before .before .before .tail-at .result in
-    count ≡ loop .names + cond (eqb (tail .last % 65536) 65535) 0 1 → count ≤ 9
-    → Glanced (layoutOf (a .g)) (recordAt (layoutOf (a .g)) (a .records .now) (a .j))
-    (record { plain = plainTests (a .g) (tail .olds) (tail .last) (loop .low) (loop .names); names = count })
-whole c =
-    let start = c .before .before .before .before .before .before in
-    let tail = c .before .before .before .tail-at .ensures in
-    let loop = c .before .loop in
+-- after the loop the look is whole, if its four tests pass; count is the names with the parity page
+whole : (c : tie.After-is-clear Inv-loop μ-loop) {count : ℕ}
+    → let a = c .before .before .before .before .before .before .before .args in
+    let loop = c .before .before .loop in
+    let p = c .before .before .before .before .ending-at .result .last % 65536 in
+    count ≡ loop .names + cond (eqb p 65535) 0 1
+    → loop .low && c .is-clear .result && (eqb p 65535 || ltb p (a .g .b * a .g .k)) && (not (eqb p 65535) || eqb (loop .names) 0) ≡ true
+    → Plain (layoutOf (a .g)) (recordAt (layoutOf (a .g)) (a .records .now) (a .j)) count
+whole c counted t =
+    let start = c .before .before .before .before .before .before .before in
+    let (olds, last) = c .before .before .before .before .ending-at .ensures in
+    let loop = c .before .before .loop in
+    let bytes : (i : ℕ) → getD (start .args .records .now) i 0 < 256 = λ i. c .before .before .before .before .before .before .shared-slice-known .given i .fits in
     let all : loop .m ≡ 8 = omega arith in
-    glanced (start .pre .0) (start .pre .1) (start .pre .2)
-    (λ i. c .before .before .before .before .before .shared-slice-known .given i .fits)
-    (tail .0)
-    (tail .1)
-    (rw all at (loop .inv .1))
-    (rw all at (loop .inv .2))
+    let names = rw all at (loop .inv .2) in
+    let (three, without) = and-both _ _ t in
+    let (two, page) = and-both _ _ three in
+    let (low, clear) = and-both _ _ two in
+    rw (counted, names)
+    (plain {p = c .before .before .before .before .ending-at .result .last % 65536} (start .pre .0) (start .pre .1) (start .pre .2) bytes
+    (omega (arith, last .sum, last .first))
+    (c .is-clear .ensures clear (start .args .records .now) (start .args .j * 32) (fits start) bytes olds last)
+    (sym (rw all at (loop .inv .1)) ∙ low)
+    (parity-low _ _ page)
+    (λ q. sym names ∙ no-parity _ _ without q))
 
 returns : tie.Need-returns Inv-loop μ-loop
-returns c =
-    let last = c .before .before .before .before .before .before .tail-at .result .last in
-    whole (c .before .before .before) (rw (not-true (eqb (last % 65536) 65535) (c .if2 .taken))) (omega arith)
+returns c t =
+    let p = c .before .before .before .before .before .ending-at .result .last % 65536 in
+    whole (c .before) (rw (not-true (eqb p 65535) (c .if2 .taken))) t
 
 returns-2 : tie.Need-returns-2 Inv-loop μ-loop
-returns-2 c =
-    let last = c .before .before .before .before .before .before .tail-at .result .last in
-    whole (c .before .before .before) (rw (not-false (eqb (last % 65536) 65535) (c .if2 .left)) (omega arith)) (omega arith)
+returns-2 c t =
+    let p = c .before .before .before .before .before .ending-at .result .last % 65536 in
+    whole (c .before) (rw (not-false (eqb p 65535) (c .if2 .left)) (omega arith)) t
 
 pub glance-at-spec : {M : Type 1} → statement M
 glance-at-spec =
@@ -106,6 +113,7 @@ glance-at-spec =
     (λ c. search needs)
     (λ c. omega arith)
     loop-again
+    (λ c κs. search needs)
     (λ c. omega arith)
     returns
     returns-2)

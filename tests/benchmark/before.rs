@@ -1,0 +1,62 @@
+//! The library as it was: the exports of another archive, with `before_` in front of their names.
+
+use crate::library::{Geometry, Report};
+use crate::reference::{self, Images, Status};
+
+macro_rules! exports {
+    ($($export:ident($($argument:ident: $type:ty $([$len:ident])?,)*) -> $answer:ty;)*) => {
+        extern "C" {
+            $(
+                #[link_name = concat!("before_", stringify!($export))]
+                fn $export($($argument: $type, $($len: usize,)?)*) -> $answer;
+            )*
+        }
+    };
+}
+
+include!("../exports.rs");
+
+/// An export on images, by pointers to read or to write them, with what it takes besides.
+macro_rules! call {
+    ($export:ident, $g:expr, $images:expr, $pointer:ident $(, $argument:expr)*) => {{
+        let Images { chips, records, slots } = $images;
+        let (chips_len, records_len, slots_len) = (chips.len(), records.len(), slots.len());
+        let (chips, records, slots) = (chips.$pointer(), records.$pointer(), slots.$pointer());
+        // SAFETY: each pointer is to as many bytes as the length beside it says, and each to a buffer of its own.
+        let report = unsafe {
+            $export($g.into(), chips, chips_len, records, records_len, slots, slots_len $(, $argument)*)
+        };
+        report.into()
+    }};
+}
+
+pub fn format(g: reference::Geometry, images: &mut Images, allowance: u64) -> Status {
+    call!(vazhettu_format, g, images, as_mut_ptr, allowance)
+}
+
+pub fn open(g: reference::Geometry, images: &mut Images, lost: u64, allowance: u64) -> Status {
+    call!(vazhettu_open, g, images, as_mut_ptr, lost, allowance)
+}
+
+pub fn read(g: reference::Geometry, images: &Images, lost: u64, page: u64, buffer: &mut [u8]) -> Status {
+    call!(vazhettu_read, g, images, as_ptr, lost, page, buffer.as_mut_ptr(), buffer.len())
+}
+
+pub fn write(
+    g: reference::Geometry,
+    images: &mut Images,
+    lost: u64,
+    page: u64,
+    data: &[u8],
+    allowance: u64,
+) -> Status {
+    call!(vazhettu_write, g, images, as_mut_ptr, lost, page, data.as_ptr(), data.len(), allowance)
+}
+
+pub fn commit(g: reference::Geometry, images: &mut Images, lost: u64, stripe: u64, allowance: u64) -> Status {
+    call!(vazhettu_commit, g, images, as_mut_ptr, lost, stripe, allowance)
+}
+
+pub fn collect(g: reference::Geometry, images: &mut Images, lost: u64, chip: u64, allowance: u64) -> Status {
+    call!(vazhettu_collect, g, images, as_mut_ptr, lost, chip, allowance)
+}
