@@ -1,6 +1,6 @@
 -- The loop's invariant: the tally, the table and the count of page numbers are those of the records below j. A record has at most 13
 -- page numbers, so that no sum overflows.
-use Prim.Native.Nat.{_+_, _-_, _≤_}
+use Prim.Native.Nat.{_-_, _≤_}
 use native.Mathlib.Omega.{arith}
 use mathlib.Core.Path.{_≡_}
 use mathlib.Core.Logic.{⊎-elim}
