@@ -129,12 +129,12 @@ pub fn member_chip(g: Geometry, j: usize, m: usize) -> usize
     if m < parity_chip(g, j) { m } else { m + 1 }
 }
 
-// The member of stripe j on chip c, where that is not the parity's.
-pub fn member_on(g: Geometry, j: usize, c: usize) -> usize
-    requires { ⌜ (limits (layoutOf g) ≡ true) × (c ≤ g .n) × (c ≢ parityChip (layoutOf g) j) ⌝ }
-    ensures { λ r. ⌜ (r ≡ memberOn (layoutOf g) j c) × (r < g .n) × (r < 6) ⌝ }
+// The member on chip c of a stripe whose parity is on chip `parity`, another one.
+pub fn member_on(g: Geometry, parity: usize, c: usize) -> usize
+    requires { ⌜ (limits (layoutOf g) ≡ true) × (c ≤ g .n) × (parity ≤ g .n) × (c ≢ parity) ⌝ }
+    ensures { λ r. ⌜ ((j : ℕ) → parity ≡ parityChip (layoutOf g) j → r ≡ memberOn (layoutOf g) j c) × (r < g .n) × (r < 6) ⌝ }
 {
-    if c < parity_chip(g, j) { c } else { c - 1 }
+    if c < parity { c } else { c - 1 }
 }
 
 // The offset of page p of chip c in the chip image.

@@ -202,6 +202,13 @@ pub fn glance_at(records: &[u8], g: Geometry, j: usize, tops: &[u16; 8]) -> Glan
     let a = j * RECORD_BYTES;
     let pages = (g.b * g.k) as usize;
     let end = ending_at(records, a);
+    // most of these are in the partial parity: their numbers are not looked at here
+    if !is_clear(end) {
+        return Glance {
+            plain: false,
+            names: 0,
+        };
+    }
     let parity = end.last % 65536;
     let bare = parity == NONE;
     let mut low = true;
@@ -216,7 +223,7 @@ pub fn glance_at(records: &[u8], g: Geometry, j: usize, tops: &[u16; 8]) -> Glan
         }
         m += 1;
     }
-    let plain = low & is_clear(end) & (bare | (parity < pages)) & (!bare | (names == 0));
+    let plain = low & (bare | (parity < pages)) & (!bare | (names == 0));
     if !bare {
         names += 1;
     }

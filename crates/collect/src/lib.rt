@@ -50,11 +50,12 @@ fn repoint(g: Geometry, e: StripeRecord, c: usize, j: usize, p: usize, q: usize)
     ensures { λ r. ⌜ (recordFrom (layoutOf g) r ≡ repointed (layoutOf g) c j p q (recordFrom (layoutOf g) e)) × SmallRecord r ⌝ }
 {
     let mut next = e;
-    if c == parity_chip(g, j) {
+    let parity = parity_chip(g, j);
+    if c == parity {
         next.parity = moved(e.parity, p, q);
         return next;
     }
-    let m = member_on(g, j, c);
+    let m = member_on(g, parity, c);
     next.current[m] = moved(e.current[m], p, q);
     next.old[m] = moved(e.old[m], p, q);
     next

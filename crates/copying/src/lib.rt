@@ -1,13 +1,11 @@
 //! The first half of a collection: phase 1, the copies, phase 2.
 
-use bytes::fill;
 use codec::CollectionRecord;
 use codec::Spare;
-use codec::record_at;
 use codec::spare_at;
 use device::program;
 use device::store_collection;
-use fetch::fetch;
+use fetch::fetch_page;
 use fetch::role_of;
 use layout::Geometry;
 use layout::NO_CHIP;
@@ -53,10 +51,8 @@ fn copy_page(
 {
     let t = spare_at(chips, g, c, p);
     let j = t.stripe;
-    let e = record_at(records, g, j);
-    let role = role_of(g, e, j, c, p);
-    fill(work, 0);
-    let got = fetch(work, chips, slots, g, NO_CHIP, j, e, role);
+    let role = role_of(records, g, j, c, p);
+    let got = fetch_page(work, chips, records, slots, g, NO_CHIP, j, role);
     let spare = Spare {
         kind: t.kind,
         member: t.member,

@@ -1,5 +1,5 @@
--- A sound record from the code's struct; the page numbers of the other members, and that a sound record's are those of pages.
-use Prim.Native.Nat.{ℕ, _≤_, _<_}
+-- A sound record from the code's struct; its numbers by their index; those of the other members; a sound record's are those of pages.
+use Prim.Native.Nat.{ℕ, _+_, _-_, _≤_, _<_}
 use native.Mathlib.Omega.{arith}
 use mathlib.Core.Path.{_≡_, refl, _∙_, fun-ext}
 use mathlib.Core.Bool.{Bool, true, false, not, cond, _&&_}
@@ -7,7 +7,7 @@ use mathlib.Core.List.{List}
 use lib.Dec.{eqb}
 use lib.ListN.{length, getD, set, replicate, getD-replicate}
 use lib.Seq.{getD-set-same, getD-set-other}
-use borrow.Author.Tests.{eq-eqb, ne-eqb}
+use borrow.Author.Tests.{lt-ltb, le-ltb, eq-eqb, ne-eqb}
 use Rattle.ranges.proofs.Looks.{both, by-order, by-same}
 use Rattle.ranges.proofs.Tests.{cond-same}
 use Rattle.layout.specs.declared.Geometry.{Geometry}
@@ -24,6 +24,7 @@ use Rattle.rules.proofs.Soundness.Statements.{Numbered, RecordSound, sound-memb
 use Rattle.rules.proofs.Soundness.RecordChecks.{record-sound}
 use Rattle.rules.proofs.Data.Parity.{numbered-under-parity, numbered-others-inside, numbered-others-under-parity}
 use Rattle.codec.specs.declared.StripeRecord.{StripeRecord}
+use Rattle.codec.specs.Scan.{numberOf}
 use Rattle.codec.specs.Views.{sixOf, recordFrom, ended, SmallRecord}
 use Rattle.fetch.specs.Into.{RoleFits}
 use Rattle.fetch.specs.Numbers.{NumbersFit}
@@ -118,6 +119,21 @@ current-fits g e h = rw e at h
 
 pub old-fits : (g : Geometry) {role : Role} {m : ℕ} → role ≡ Old m → RoleFits g role → m < g .n
 old-fits g e h = rw e at h
+
+-- the numbers of a record by their index are those of its members, and of the parity
+pub number-current : (r : Record) (m : ℕ) → m < 6 → numberOf r m ≡ r .current m
+unfolding numberOf
+number-current r m six = rw (lt-ltb m 6 six)
+
+pub number-old : (r : Record) (m : ℕ) → m < 6 → numberOf r (6 + m) ≡ r .old m
+unfolding numberOf
+number-old r m six =
+    let old : 6 + m - 6 ≡ m = omega arith in
+    rw (le-ltb (6 + m) 6 (omega arith), lt-ltb (6 + m) 12 (omega arith), old)
+
+pub number-parity : (r : Record) → numberOf r 12 ≡ r .parity
+unfolding numberOf
+number-parity r = refl
 
 -- its page, if it has one, is one of its chip
 pub role-number : (g : Geometry) → Within (layoutOf g) → (r : Record) → RecordSound (layoutOf g) r → (role : Role) → RoleFits g role

@@ -6,7 +6,7 @@ use mathlib.Core.Path.{_≡_, refl, sym, _∙_}
 use mathlib.Core.Logic.{_≢_}
 use mathlib.Core.Bool.{true, false, cond}
 use mathlib.Core.List.{List}
-use lib.ListN.{length, getD, set, length-set}
+use lib.ListN.{length, getD, set, replicate, length-set}
 use lib.Seq.{getD-set-same, getD-set-other}
 use lib.Dec.{eqb}
 use borrow.Author.Tests.{eq-eqb, ne-eqb, le-ltb}
@@ -14,7 +14,7 @@ use Rattle.ranges.specs.Look.{sumBelow}
 use Rattle.bytes.specs.Xor.{_⊕_, xorBelow}
 use Rattle.ranges.proofs.Looks.{by-test, at-last, by-order}
 use Rattle.ranges.proofs.Tests.{cond-same}
-use Rattle.bytes.proofs.Xors.{xors-assoc, xor-nil-r, length-xors-left}
+use Rattle.bytes.proofs.Xors.{xors-assoc, xor-nil-r, length-xors-left, xors-zeros-l}
 use Rattle.layout.specs.declared.Geometry.{Geometry}
 use Rattle.layout.specs.Layout.{Layout, layoutOf, none}
 use Rattle.layout.specs.Rotation.{memberChip}
@@ -88,6 +88,11 @@ module _ (l : Layout) (y : ℕ → ℕ → Page) (c p : ℕ) (before : List ℕ)
   pub page-there : p ≢ none l → {after : List ℕ} → after ≡ before ⊕ y c p .bytes → (after ≡ before ⊕ itself l y c p .bytes) × (1 ≡ itself l y c p .reads) × (1 ≤ 1)
   unfolding itself
   page-there d e = rw (ne-eqb p (none l) d) (e, refl, omega arith)
+
+-- a page copied is what one XORed into zeros would be
+pub page-copied : (l : Layout) (y : ℕ → ℕ → Page) (c p : ℕ) → p ≢ none l → {w : ℕ} {after : List ℕ} → length (y c p .bytes) ≡ w → after ≡ y c p .bytes
+    → (after ≡ replicate w 0 ⊕ itself l y c p .bytes) × (1 ≡ itself l y c p .reads) × (1 ≤ 1)
+page-copied l y c p d {w} long e = page-there l y c p (replicate w 0) d (e ∙ sym (xors-zeros-l w (y c p .bytes) (omega arith)))
 
 direct : (l : Layout) (y : ℕ → ℕ → Page) (c p : ℕ) → p ≢ none l → Direct ≡ itself l y c p .origin
 unfolding itself

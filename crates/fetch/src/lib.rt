@@ -1,4 +1,4 @@
-//! One page of a stripe, fetched in its role: XORed into a buffer, from the other chips where its own is lost.
+//! One page of a stripe, fetched in its role: XORed into a buffer or copied, from the other chips where its own is lost.
 
 use bytes::copy;
 use bytes::fill;
@@ -11,6 +11,9 @@ use codec::member_on;
 use codec::page_data;
 use codec::parity_chip;
 use codec::record_at;
+use codec::scan::LAST;
+use codec::scan::OLD;
+use codec::scan::number_in;
 use codec::slot_data;
 use layout::Geometry;
 use rules::Origin;
@@ -21,7 +24,7 @@ ghost use mathlib.Core.Bool.{true, cond};
 ghost use mathlib.Core.List.{List};
 ghost use Prim.Native.Nat.{ℕ, _/_, _%_, _^_, _≤_, _<_};
 ghost use lib.Dec.{eqb};
-ghost use lib.ListN.{length};
+ghost use lib.ListN.{length, replicate};
 ghost use Rattle.bytes.specs.Xor.{_⊕_};
 ghost use Rattle.layout.specs.Layout.{layoutOf, limits, none, pages};
 ghost use Rattle.layout.specs.Page.{pageAt};
@@ -30,7 +33,7 @@ ghost use Rattle.layout.specs.Images.{slotAt};
 ghost use Rattle.steps.specs.Allowance.{images};
 ghost use Rattle.rules.specs.Names.{roleOf};
 ghost use Rattle.rules.specs.Sound.{recordSound};
-ghost use Rattle.rules.specs.Fetch.{itself, gathered, chipIn, numberIn, underParity, othersUnderParity, othersInside, throughPartial, throughParity, rebuilt, fetchRole};
+ghost use Rattle.rules.specs.Fetch.{itself, gathered, chipIn, numberIn, underParity, othersUnderParity, othersInside, throughPartial, throughParity, rebuilt, fetchRole, fetchIn};
 ghost use Rattle.rules.specs.Read.{fetchMember};
 ghost use Rattle.codec.specs.Fit.{ChipsFit, RecordsFit, SlotsFit};
 ghost use Rattle.codec.specs.Views.{sixOf, recordFrom};
@@ -215,16 +218,29 @@ fn number_of(g: Geometry, e: StripeRecord, role: Role) -> usize
     }
 }
 
-// The role of page p of chip c, which the record of stripe j names.
-pub fn role_of(g: Geometry, e: StripeRecord, j: usize, c: usize, p: usize) -> Role
-    requires { ⌜ (limits (layoutOf g) ≡ true) × (c ≤ g .n) ⌝ }
-    ensures { λ r. ⌜ (r ≡ roleOf (layoutOf g) c j (recordFrom (layoutOf g) e) p) × RoleFits g r ⌝ }
+// The same from the records.
+fn number_named(records: &[u8], g: Geometry, j: usize, role: Role) -> usize
+    requires { ⌜ RecordsFit g (now records) × (j < g .s) × RoleFits g role ⌝ }
+    ensures { λ r. ⌜ r ≡ numberIn (layoutOf g) (recordAt (layoutOf g) (now (records .entry)) j) role ⌝ }
 {
-    if c == parity_chip(g, j) {
+    match role {
+        Role::Current(m) => number_in(records, g, j, m),
+        Role::Old(m) => number_in(records, g, j, OLD + m),
+        Role::Parity => number_in(records, g, j, LAST),
+    }
+}
+
+// The role of page p of chip c, which the record of stripe j names.
+pub fn role_of(records: &[u8], g: Geometry, j: usize, c: usize, p: usize) -> Role
+    requires { ⌜ RecordsFit g (now records) × (j < g .s) × (c ≤ g .n) ⌝ }
+    ensures { λ r. ⌜ (r ≡ roleOf (layoutOf g) c j (recordAt (layoutOf g) (now (records .entry)) j) p) × RoleFits g r ⌝ }
+{
+    let parity = parity_chip(g, j);
+    if c == parity {
         return Role::Parity;
     }
-    let m = member_on(g, j, c);
-    if e.current[m] == p {
+    let m = member_on(g, parity, c);
+    if number_in(records, g, j, m) == p {
         return Role::Current(m);
     }
     Role::Old(m)
@@ -263,6 +279,47 @@ pub fn fetch(
     }
 }
 
+// The buffer becomes the page of stripe j in this role, zeros where there is none. One that is there is copied, and of its record only its
+// number is looked at: nearly all pages come so.
+pub fn fetch_page(
+    buffer: &mut [u8],
+    chips: &[u8],
+    records: &[u8],
+    slots: &[u8],
+    g: Geometry,
+    lost: usize,
+    j: usize,
+    role: Role,
+) -> Got
+    requires { ⌜ ChipsFit g (now chips) × RecordsFit g (now records) × SlotsFit g (now slots) × (length (now buffer) ≡ g .w) × (j < g .s) × RoleFits g role
+        × (recordSound (layoutOf g) (recordAt (layoutOf g) (now records) j) ≡ true) ⌝ }
+    ensures { λ r. ⌜ Into (fetchIn (layoutOf g) (images (now (chips .entry)) (now (records .entry)) (now (slots .entry))) lost j role)
+        (replicate (g .w) 0) (now (buffer .exit)) r ⌝ }
+{
+    let number = number_named(records, g, j, role);
+    if number != NONE {
+        let c = chip_of(g, j, role);
+        if c != lost {
+            copy(buffer, page_data(chips, g, c, number));
+            return Got {
+                reads: 1,
+                origin: Origin::Direct,
+            };
+        }
+    }
+    fill(buffer, 0);
+    fetch(
+        buffer,
+        chips,
+        slots,
+        g,
+        lost,
+        j,
+        record_at(records, g, j),
+        role,
+    )
+}
+
 // The buffer becomes member m of stripe j. On the lost chip it is gathered in a work page.
 pub fn read_member(
     buffer: &mut [u8],
@@ -279,21 +336,19 @@ pub fn read_member(
     ensures { λ r. ⌜ record { bytes = now (buffer .exit); reads = r .reads; origin = r .origin }
         ≡ fetchMember (layoutOf g) (images (now (chips .entry)) (now (records .entry)) (now (slots .entry))) lost j m ⌝ }
 {
-    let e = record_at(records, g, j);
     if member_chip(g, j, m) != lost {
-        fill(buffer, 0);
-        return fetch(buffer, chips, slots, g, lost, j, e, Role::Current(m));
+        return fetch_page(buffer, chips, records, slots, g, lost, j, Role::Current(m));
     }
     let mut work = [0u8; 4096];
     let w = g.w as usize;
-    let got = fetch(
+    let got = fetch_page(
         &mut work[0..w],
         chips,
+        records,
         slots,
         g,
         lost,
         j,
-        e,
         Role::Current(m),
     );
     copy(buffer, &work[0..w]);

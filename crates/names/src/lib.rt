@@ -44,7 +44,7 @@ fn stripe_pages(records: &[u8], g: Geometry, c: usize, j: usize) -> StripePages
             member: 0,
         };
     }
-    let m = member_on(g, j, c);
+    let m = member_on(g, parity, c);
     StripePages {
         main: number_in(records, g, j, m),
         side: number_in(records, g, j, OLD + m),

@@ -1,7 +1,6 @@
 -- The test of the code is the test of the definition.
 use Prim.Native.Nat.{_≤_}
 use native.Mathlib.Omega.{arith}
-use borrow.Author.Needs.{needs}
 use borrow.Author.Tests.{lt-ltb, le-ltb}
 use Rattle.layout.specs.Layout.{layoutOf}
 use Rattle.layout.specs.Rotation.{memberOn}
@@ -15,16 +14,14 @@ six c = within (layoutOf (c .args .g)) (c .pre .0) .members-high
 returns : tie.Need-returns
 unfolding memberOn
 returns c =
-    let s = c .before .before in
-    let x = c .before .parity-chip in
-    (rw (← x .ensures .0, lt-ltb (s .args .c) (x .result) (c .if1 .taken)), omega arith, omega (arith, six s))
+    let s = c .before in
+    (λ j is. rw (← is, lt-ltb (s .args .c) (s .args .parity) (c .if1 .taken)), omega (arith, s .pre .2), omega (arith, s .pre .2, six s))
 
 returns-2 : tie.Need-returns-2
 unfolding memberOn
 returns-2 c =
-    let s = c .before .before in
-    let x = c .before .parity-chip in
-    (rw (← x .ensures .0, le-ltb (s .args .c) (x .result) (c .if1 .left)), omega (arith, s .pre .2), omega (arith, s .pre .2, six s))
+    let s = c .before in
+    (λ j is. rw (← is, le-ltb (s .args .c) (s .args .parity) (c .if1 .left)), omega (arith, s .pre .3, s .pre .1), omega (arith, s .pre .3, s .pre .1, six s))
 
 pub member-on-spec : {M : Type 1} → statement M
-member-on-spec = tie.close (tie.spec (λ c κs. search needs) (λ c. omega (arith, c .before .before .pre .2)) returns returns-2)
+member-on-spec = tie.close (tie.spec (λ c. omega (arith, c .before .pre .3)) returns returns-2)

@@ -19,7 +19,7 @@ returns c =
 member-on-requires : tie.Need-member-on-requires
 member-on-requires c κs =
     let s = c .before .before in
-    (s .pre .0, s .pre .1, λ e. c .if1 .left (e ∙ sym (c .before .parity-chip .ensures .0)))
+    (s .pre .0, s .pre .1, c .before .parity-chip .ensures .1, c .if1 .left)
 
 returns-2 : tie.Need-returns-2
 returns-2 c =
@@ -30,7 +30,7 @@ returns-2 c =
     let six-old : length (a .t2 .old) ≡ 6 = simp length-map at (s .good .1 .0 .1 .1 .1 .0 .1 .0 .1) in
     member-moved (layoutOf (a .g)) (a .t2) (a .c) (a .j) (a .p) (a .q) (s .pre .2) (s .pre .3)
     (λ e. m .before .if1 .left (e ∙ sym (m .before .before .parity-chip .ensures .0)))
-    (m .member-on .result) (c .before .before .moved2 .result) (c .moved3 .result) (m .member-on .ensures .0) (m .member-on .ensures .2) six six-old
+    (m .member-on .result) (c .before .before .moved2 .result) (c .moved3 .result) (m .member-on .ensures .0 (a .j) (m .before .before .parity-chip .ensures .0)) (m .member-on .ensures .2) six six-old
     (c .before .before .moved2 .ensures) (c .moved3 .ensures)
 
 pub repoint-spec : {M : Type 1} → statement M

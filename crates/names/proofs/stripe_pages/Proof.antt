@@ -24,11 +24,11 @@ returns-2 c =
     let s = c .before .before .before .before .before .before in
     let m = c .before .before .member-on in
     rw (c .before .number-in2 .ensures .0, c .number-in3 .ensures .0)
-    (member-pages (layoutOf (s .args .g)) (s .args .j) _ (s .args .c) (m .result) (elsewhere (c .before .before .before)) (m .ensures .0) (m .ensures .2))
+    (member-pages (layoutOf (s .args .g)) (s .args .j) _ (s .args .c) (m .result) (elsewhere (c .before .before .before)) (m .ensures .0 (s .args .j) (c .before .before .before .before .parity-chip .ensures .0)) (m .ensures .2))
 
 pub stripe-pages-spec : {M : Type 1} → statement M
 stripe-pages-spec =
     tie.close
     (tie.spec (λ c κs. search needs) (λ c κs. search needs) returns
-    (λ c κs. let h = c .before .before .before .pre in (h .0 .limited, h .1, elsewhere c)) (λ c κs. search needs) (λ c. search needs)
+    (λ c κs. let h = c .before .before .before .pre in (h .0 .limited, h .1, c .before .parity-chip .ensures .1, c .if1 .left)) (λ c κs. search needs) (λ c. search needs)
     (λ c κs. search needs) returns-2)
