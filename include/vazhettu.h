@@ -1,5 +1,6 @@
 /*
- * The weight store: flash chips run as RAID-5 with delayed partial parity. Six calls: format, open, read, write, commit, collect.
+ * The weight store: flash chips run as RAID-5 with delayed partial parity. Six calls keep pages: format, open, read, write,
+ * commit, collect. Two keep a log of tickets, the weights of bags, in these pages: add, find.
  *
  * A store of n data pages to a stripe has n + 1 chips, and is three buffers that the caller lends to every call:
  *   chips    the chips end to end, each of b blocks of k pages; a page is w data bytes and 8 spare bytes
@@ -18,8 +19,8 @@
  *
  * What the store promises, from a format that was done until the next one, as long as every call has its geometry and nobody
  * else writes the buffers: whatever was cut or refused, every page reads as its last write that was done, or as zeros if there is
- * none. This stands when any one chip is lost and its bytes become anything, if each call from then on names that chip. What is
- * said below of how pages read is said of such a store.
+ * none; an add writes the page that its ticket falls in. This stands when any one chip is lost and its bytes become anything, if
+ * each call from then on names that chip. What is said below of how pages read, and of the log, is said of such a store.
  *
  * What this says of a loss of power rests on the device. A call stores to plain memory: it promises the bytes of its
  * buffers when it returns, and not the order in which compiled code, caches, write buffers or a driver of the flash bring
@@ -29,9 +30,10 @@
  *
  * What a call needs: no alignment of any buffer, no memory but the buffers and less than 16 KB of stack (measured), and of the C
  * library memcpy and memset. It does no input or output, keeps nothing from one call to the next, and always ends. So
- * calls on different stores may be made at once, from threads or interrupts, and so may reads of one store, as long as no other
- * call has its buffers. Only a format may be given memory that nobody has written yet; the slots may stay so after it. Every
- * other call looks at each record, and at the spare bytes of each page but the lost chip's: its time grows with the store.
+ * calls on different stores may be made at once, from threads or interrupts, and so may reads and finds of one store, as long as
+ * no other call has its buffers. Only a format may be given memory that nobody has written yet; the slots may stay so after it.
+ * Every other call looks at each record, and at the spare bytes of each page but the lost chip's: its time grows with the store.
+ * Add and find do that once, and then get each page of the log: their time grows with the log besides.
  *
  * The numbers in the buffers are little-endian. The library is built for x86-64.
  */
@@ -65,7 +67,7 @@ struct vazhettu_geometry {
 
 /*
  * What a call answers. A call that is refused has counts of zero and has changed nothing, its buffer or data included. A call
- * that is cut has the counts of the stores that it made.
+ * that is cut has the counts of the stores that it made, and an add those of the log besides.
  */
 struct vazhettu_report {
     uint64_t status;   /* VAZHETTU_DONE, VAZHETTU_CUT, or the refusal */
@@ -76,9 +78,10 @@ struct vazhettu_report {
 };
 
 /*
- * A call is checked from 1 to 10, and the first that applies is its answer. 1 and 2 are for every call, 3 to 5 for all but
- * format, 6 and 9 for write, commit and collect, 7 for these and read, 8 for read and write, 10 for commit and collect. A format
- * is only ever refused 1 or 2, an open 1 to 5; a read is never cut.
+ * A call is checked from 1 to 12, and the first that applies is its answer. 1 and 2 are for every call, 3 to 5 for all but
+ * format, 6 and 9 for write, commit, collect and add, 7 for read, write, commit and collect, 8 for read, write and add, 10 for
+ * commit and collect, 11 for add and find, 12 for add. An add looks for 11 at its own ticket first, then at those of the log. A
+ * format is only ever refused 1 or 2, an open 1 to 5, a find 1 to 5 or 11; a read or a find is never cut.
  */
 enum {
     VAZHETTU_DONE = 0,
@@ -98,19 +101,26 @@ enum {
      * A call that names a chip makes no store, so each chip may be tried. Data bytes are not looked at.
      */
     VAZHETTU_BAD_SPARES = 5,
-    /* A collection was cut: vazhettu_open finishes it, and then the call can be made. Reads need not wait. */
+    /* A collection was cut: vazhettu_open finishes it, and then the call can be made. Reads and finds need not wait. */
     VAZHETTU_COLLECTION_UNDER_WAY = 6,
     /* There is no such page, stripe or chip. */
     VAZHETTU_BAD_REQUEST = 7,
-    /* The buffer or the data is not of w bytes. */
+    /* The buffer or the data is not of w bytes, or the ticket not of 16. */
     VAZHETTU_BAD_DATA = 8,
     /*
-     * A chip is named as lost, and the call needs them all. Reads do not: to go on with a new chip, read every page, format, and
-     * write them again.
+     * A chip is named as lost, and the call needs them all. Reads and finds do not: to go on with a new chip, read every page,
+     * format, and write them again.
      */
     VAZHETTU_CHIP_LOST = 9,
     /* There is nothing to do: the stripe has no partial parity, or no full block of the chip has a page to give up. */
     VAZHETTU_NO_WORK = 10,
+    /*
+     * A ticket breaks its rules: the one that is given, or one in the log. An add never puts such a ticket into a page, so one in
+     * the log is from a write, and a write can mend its page.
+     */
+    VAZHETTU_TICKETS = 11,
+    /* The log fills every page, and takes no ticket more. */
+    VAZHETTU_FULL_LOG = 12,
     /*
      * More stores were due than the allowance. Those that were made stand whole, and no other byte has changed. After a format
      * that was cut, format again; after any other call, call vazhettu_open, and make the call again if it is still wanted.
@@ -127,8 +137,8 @@ enum {
 /*
  * The allowance is the number of stores that a call may make, what the capacitor still holds: the call makes no more, and is
  * cut exactly where more are due. A format makes (n + 1) * b + s + 1 stores; an open makes at most k + 2, a collect
- * 2 * k + 4, a commit 2 * k + 6, a write 4 * k + 13. Where stores happen in order and whole (see above), a loss of power
- * between two of them leaves what a cut there leaves. With this one no call is cut.
+ * 2 * k + 4, a commit 2 * k + 6, a write or an add 4 * k + 13. Where stores happen in order and whole (see above), a loss of
+ * power between two of them leaves what a cut there leaves. With this one no call is cut.
  */
 #define VAZHETTU_NO_LIMIT UINT64_MAX
 
@@ -184,6 +194,74 @@ struct vazhettu_report vazhettu_commit(struct vazhettu_geometry g, uint8_t *chip
 struct vazhettu_report vazhettu_collect(struct vazhettu_geometry g, uint8_t *chips, size_t chips_len, uint8_t *records,
                                         size_t records_len, const uint8_t *slots, size_t slots_len, uint64_t lost, uint64_t chip,
                                         uint64_t allowance);
+
+/*
+ * A ticket is 16 bytes:
+ *   0         kind: 0 empty, 1 weight, 2 withdrawal
+ *   1         zero
+ *   2, 3      bag
+ *   4 to 7    lot
+ *   8 to 11   gross, in grams
+ *   12 to 15  tare, in grams
+ * Its rules: the kind is 1 or 2, byte 1 is zero, a withdrawal has both weights zero, and tare is not above gross.
+ *
+ * Tickets fill the logical pages in order from page 0, w / 16 to a page. The log ends at the first of kind 0, whatever the other
+ * bytes of that one are; all before it are in the log. After a format it is empty. Of the tickets in the log with one lot and
+ * bag the latest stands.
+ *
+ * The pages are those of vazhettu_read and vazhettu_write, and a write may put anything there. What stands behind the end is not
+ * looked at until an add fills the place of the end; then it is in the log, up to the next of kind 0, and if it breaks the rules,
+ * add and find are refused from then on. So pages that the log may come to are best left to it.
+ */
+#define VAZHETTU_WEIGHT 1
+#define VAZHETTU_WITHDRAWAL 2
+
+/* Makes the 16 bytes of a ticket, and checks nothing. */
+static inline void vazhettu_ticket(uint8_t out[16], uint8_t kind, uint32_t lot, uint16_t bag, uint32_t gross, uint32_t tare) {
+    int i;
+    out[0] = kind;
+    out[1] = 0;
+    out[2] = (uint8_t)bag;
+    out[3] = (uint8_t)(bag >> 8);
+    for (i = 0; i < 4; i++) {
+        out[4 + i] = (uint8_t)(lot >> 8 * i);
+        out[8 + i] = (uint8_t)(gross >> 8 * i);
+        out[12 + i] = (uint8_t)(tare >> 8 * i);
+    }
+}
+
+/*
+ * Adds the ticket, of 16 bytes, to the log: writes the page that the log's end falls in, with the ticket there and all other
+ * bytes kept, store by store as vazhettu_write does. Once done, the ticket is in the log, behind all that were there; cut or
+ * refused, the log is as before; and so it stays, whichever chip is lost later. It counts the reads of the log, of each page up
+ * to and including the one that the ticket falls in, also where it is cut at allowance 0, and to these the counts of the write.
+ * A page never written is no read.
+ */
+struct vazhettu_report vazhettu_add(struct vazhettu_geometry g, uint8_t *chips, size_t chips_len, uint8_t *records,
+                                    size_t records_len, uint8_t *slots, size_t slots_len, uint64_t lost, const uint8_t *ticket,
+                                    size_t ticket_len, uint64_t allowance);
+
+/* What a find answers: the numbers of a report, of which programs, erases and stores are always zero, and what stands. */
+struct vazhettu_find_report {
+    uint64_t status;
+    uint64_t reads;
+    uint64_t programs;
+    uint64_t erases;
+    uint64_t stores;
+    uint64_t standing; /* 1 where a weight stands; else 0, and so are gross and tare */
+    uint64_t gross;    /* in grams */
+    uint64_t tare;     /* in grams */
+};
+
+/*
+ * Finds what stands for the lot and bag: a weight if the latest ticket with both is one, and nothing if that is a withdrawal or
+ * there is none. Makes no store, and works with a chip lost and while a collection is under way. It counts the reads of each page
+ * up to and including the one with the log's end once, of all pages where the log is full. Lot and bag are of 32 and 16 bits: C
+ * makes larger numbers fit without a word.
+ */
+struct vazhettu_find_report vazhettu_find(struct vazhettu_geometry g, const uint8_t *chips, size_t chips_len,
+                                          const uint8_t *records, size_t records_len, const uint8_t *slots, size_t slots_len,
+                                          uint64_t lost, uint32_t lot, uint16_t bag);
 
 #ifdef __cplusplus
 }

@@ -60,4 +60,24 @@ exports! {
         chip: u64,
         allowance: u64,
     ) -> Report;
+
+    vazhettu_add(
+        g: Geometry,
+        chips: *mut u8 [chips_len],
+        records: *mut u8 [records_len],
+        slots: *mut u8 [slots_len],
+        lost: u64,
+        ticket: *const u8 [ticket_len],
+        allowance: u64,
+    ) -> Report;
+
+    vazhettu_find(
+        g: Geometry,
+        chips: *const u8 [chips_len],
+        records: *const u8 [records_len],
+        slots: *const u8 [slots_len],
+        lost: u64,
+        lot: u32,
+        bag: u16,
+    ) -> FindReport;
 }

@@ -24,6 +24,20 @@ pub struct Report {
     stores: u64,
 }
 
+/// `standing` is 1 where a weight stands, else 0, and so are both weights.
+#[repr(C)]
+#[derive(Clone, Copy)]
+pub struct FindReport {
+    status: u64,
+    reads: u64,
+    programs: u64,
+    erases: u64,
+    stores: u64,
+    standing: u64,
+    gross: u64,
+    tare: u64,
+}
+
 macro_rules! exports {
     ($($export:ident($($argument:ident: $type:ty $([$len:ident])?,)*) -> $answer:ty;)*) => {
         extern "C" {
@@ -49,6 +63,14 @@ impl From<Report> for reference::Status {
             erases: r.erases,
             stores: r.stores,
         }
+    }
+}
+
+/// Status and counts, and the last three numbers as they came.
+impl From<FindReport> for (reference::Status, [u64; 3]) {
+    fn from(found: FindReport) -> (reference::Status, [u64; 3]) {
+        let FindReport { status, reads, programs, erases, stores, standing, gross, tare } = found;
+        (reference::Status { status, reads, programs, erases, stores }, [standing, gross, tare])
     }
 }
 
@@ -194,4 +216,25 @@ pub fn collect<L: Buffer>(
     allowance: u64,
 ) -> reference::Status {
     call!(vazhettu_collect, g, lent, lost, chip, allowance)
+}
+
+pub fn add<L: Buffer>(
+    g: reference::Geometry,
+    lent: &mut LentImages<L>,
+    lost: u64,
+    ticket: &mut L,
+    allowance: u64,
+) -> reference::Status {
+    call!(vazhettu_add, g, lent, lost, ticket.pointer(), ticket.length(), allowance)
+}
+
+/// Status and counts; whether a weight stands, gross and tare.
+pub fn find<L: Buffer>(
+    g: reference::Geometry,
+    lent: &mut LentImages<L>,
+    lost: u64,
+    lot: u32,
+    bag: u16,
+) -> (reference::Status, [u64; 3]) {
+    call!(vazhettu_find, g, lent, lost, lot, bag)
 }

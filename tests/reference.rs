@@ -1,8 +1,9 @@
-//! The weight store, written a second time, from document 01 and the readings of its open points.
+//! The weight store, written a second time, from document 01, request 1 of document 02, and the
+//! readings of their open points.
 //!
 //! It is the plain model that random calls are compared with: it owns its images, makes one
 //! store after the other as the document lists them, and takes time linear in the images.
-//! The words in quotes are the document's.
+//! The words in quotes are the documents'.
 
 /// "65,535 for none".
 pub const NONE: u16 = 65_535;
@@ -18,6 +19,7 @@ pub const PARITY: u8 = 80;
 
 pub const SPARE_BYTES: usize = 8;
 pub const RECORD_BYTES: usize = 32;
+pub const TICKET_BYTES: usize = 16;
 /// A record has room for six members, whatever N is.
 pub const MEMBERS: usize = 6;
 
@@ -25,6 +27,11 @@ pub const MEMBERS: usize = 6;
 pub const EMPTY_RECORD: [u8; RECORD_BYTES] =
     *b"\xff\xff\xff\xff\xff\xff\xff\xff\xff\xff\xff\xff\xff\xff\xff\xff\xff\xff\xff\xff\xff\xff\xff\xff\
        \xff\xff\x00\xff\x00\x00\x00\x00";
+
+/// "kind (0 empty, 1 weight, 2 withdrawal)".
+pub const EMPTY: u8 = 0;
+pub const WEIGHT: u8 = 1;
+pub const WITHDRAWAL: u8 = 2;
 
 pub const DONE: u64 = 0;
 pub const CUT: u64 = 255;
@@ -59,7 +66,22 @@ pub struct Status {
     pub stores: u64,
 }
 
-/// "Where a call is turned back", with the table's numbers.
+/// A weight that stands: gross and tare grams.
+#[derive(Clone, Copy, Debug, PartialEq, Eq)]
+pub struct Weight {
+    pub gross: u32,
+    pub tare: u32,
+}
+
+/// What a question is answered: status and counts as of a read, and the weight that stands, if
+/// there is one; none where it is refused.
+#[derive(Clone, Copy, Debug, PartialEq, Eq)]
+pub struct Finding {
+    pub status: Status,
+    pub weight: Option<Weight>,
+}
+
+/// "Where a call is turned back", with the table's numbers, and those of request 1.
 #[derive(Clone, Copy, Debug, PartialEq, Eq)]
 pub enum Refusal {
     Geometry = 1,
@@ -72,6 +94,8 @@ pub enum Refusal {
     Data = 8,
     ChipSet = 9,
     Work = 10,
+    Ticket = 11,
+    LogFull = 12,
 }
 
 impl Status {
@@ -303,9 +327,64 @@ impl Collection {
     }
 }
 
+/// A record of the log.
+#[derive(Clone, Copy, Debug, PartialEq, Eq)]
+pub struct Ticket {
+    pub kind: u8,
+    pub zero: u8,
+    pub bag: u16,
+    pub lot: u32,
+    pub gross: u32,
+    pub tare: u32,
+}
+
+impl Ticket {
+    /// "kind .., a zero byte, bag (2 bytes), lot (4), gross grams (4), tare grams (4)".
+    pub fn from_bytes(bytes: &[u8]) -> Ticket {
+        Ticket {
+            kind: bytes[0],
+            zero: bytes[1],
+            bag: number(bytes, 2),
+            lot: long_number(bytes, 4),
+            gross: long_number(bytes, 8),
+            tare: long_number(bytes, 12),
+        }
+    }
+
+    pub fn to_bytes(self) -> [u8; TICKET_BYTES] {
+        let mut bytes = [0; TICKET_BYTES];
+        bytes[0] = self.kind;
+        bytes[1] = self.zero;
+        bytes[2..4].copy_from_slice(&self.bag.to_le_bytes());
+        bytes[4..8].copy_from_slice(&self.lot.to_le_bytes());
+        bytes[8..12].copy_from_slice(&self.gross.to_le_bytes());
+        bytes[12..].copy_from_slice(&self.tare.to_le_bytes());
+        bytes
+    }
+
+    /// "a withdrawal has both weights zero; tare is never above gross"; an empty ticket keeps none.
+    pub fn keeps_rules(&self) -> bool {
+        let weights = match self.kind {
+            WEIGHT => self.tare <= self.gross,
+            WITHDRAWAL => self.gross == 0 && self.tare == 0,
+            _ => false,
+        };
+        weights && self.zero == 0
+    }
+
+    /// "the one standing if it is a weight, else none".
+    fn weight(self) -> Option<Weight> {
+        (self.kind == WEIGHT).then_some(Weight { gross: self.gross, tare: self.tare })
+    }
+}
+
 /// "All numbers in images are little-endian."
 fn number(bytes: &[u8], at: usize) -> u16 {
     u16::from_le_bytes([bytes[at], bytes[at + 1]])
+}
+
+fn long_number(bytes: &[u8], at: usize) -> u32 {
+    u32::from_le_bytes([bytes[at], bytes[at + 1], bytes[at + 2], bytes[at + 3]])
 }
 
 fn xor(sum: &mut [u8], page: &[u8]) {
@@ -324,6 +403,19 @@ pub struct Name {
     pub page: usize,
     pub kind: u8,
     pub member: u8,
+}
+
+/// What a walk of the log has found: its reads, and its end, if it does not fill every page.
+struct Log {
+    reads: u64,
+    end: Option<LogEnd>,
+}
+
+/// The page with the log's first ticket of kind 0, and that ticket's byte in the page.
+struct LogEnd {
+    stripe: usize,
+    member: usize,
+    at: usize,
 }
 
 /// Images of the right lengths, looked at.
@@ -485,29 +577,80 @@ impl<'a> View<'a> {
         (sum, reads)
     }
 
-    /// A written page of the lost chip, and its reads: "bit set, slot ⊕ the other pages of the
-    /// bitmap; bit clear, parity page ⊕ old page of each set member ⊕ current page of each other
-    /// clear one".
-    fn rebuilt(self, stripe: usize, member: usize) -> (Vec<u8>, u64) {
-        let record = self.record(stripe);
+    /// Gathers a written page of the lost chip, and tells its reads: "bit set, slot ⊕ the other
+    /// pages of the bitmap; bit clear, parity page ⊕ old page of each set member ⊕ current page of
+    /// each other clear one".
+    fn rebuild(self, stripe: usize, record: &Record, member: usize, sum: &mut [u8]) -> u64 {
         let through_partial = record.bit(member);
-        let mut sum = vec![0; self.shape.w];
         let mut reads = 0;
         if through_partial {
-            xor(&mut sum, self.slot(record.slot));
+            sum.copy_from_slice(self.slot(record.slot));
         } else {
-            reads += self.add(&mut sum, self.shape.parity_chip(stripe), record.parity);
+            sum.fill(0);
+            reads += self.add(sum, self.shape.parity_chip(stripe), record.parity);
         }
         for m in (0..self.shape.n).filter(|&m| m != member) {
             let chip = self.shape.member_chip(stripe, m);
             reads += match (through_partial, record.bit(m)) {
-                (true, true) => self.add(&mut sum, chip, record.current[m]),
+                (true, true) => self.add(sum, chip, record.current[m]),
                 (true, false) => 0,
-                (false, true) => self.add(&mut sum, chip, record.old[m]),
-                (false, false) => self.add(&mut sum, chip, record.current[m]),
+                (false, true) => self.add(sum, chip, record.old[m]),
+                (false, false) => self.add(sum, chip, record.current[m]),
             };
         }
-        (sum, reads)
+        reads
+    }
+
+    /// A member's page as it reads, and its reads. It is where it lies, or in the work page if it is
+    /// zeros or gathered.
+    pub fn fetch<'b>(
+        self,
+        stripe: usize,
+        record: &Record,
+        member: usize,
+        lost: Option<usize>,
+        work: &'b mut [u8],
+    ) -> (&'b [u8], u64)
+    where
+        'a: 'b,
+    {
+        let chip = self.shape.member_chip(stripe, member);
+        match record.current[member] {
+            NONE => {
+                work.fill(0);
+                (work, 0)
+            }
+            _ if lost == Some(chip) => {
+                let reads = self.rebuild(stripe, record, member, work);
+                (work, reads)
+            }
+            current => (self.data(chip, current as usize), 1),
+        }
+    }
+
+    /// "Tickets fill the pages in order, and the log ends at the first of kind 0." `each` is shown the
+    /// tickets before it; one that breaks the rules ends the walk.
+    fn walk_log(self, lost: Option<usize>, mut each: impl FnMut(&Ticket)) -> Result<Log, Refusal> {
+        let mut work = vec![0; self.shape.w];
+        let mut reads = 0;
+        for stripe in 0..self.shape.s {
+            let record = self.record(stripe);
+            for member in 0..self.shape.n {
+                let (page, fetched) = self.fetch(stripe, &record, member, lost, &mut work);
+                reads += fetched;
+                for (i, bytes) in page.chunks_exact(TICKET_BYTES).enumerate() {
+                    let ticket = Ticket::from_bytes(bytes);
+                    if ticket.kind == EMPTY {
+                        return Ok(Log { reads, end: Some(LogEnd { stripe, member, at: i * TICKET_BYTES }) });
+                    }
+                    if !ticket.keeps_rules() {
+                        return Err(Refusal::Ticket);
+                    }
+                    each(&ticket);
+                }
+            }
+        }
+        Ok(Log { reads, end: None })
     }
 
     /// The stripes whose record has a slot, with their records.
@@ -699,19 +842,25 @@ fn check_images(
     Ok((view, lost))
 }
 
+/// Refusals 1 to 6.
+fn check_idle(geometry: Geometry, images: &Images, lost: u64) -> Result<(View<'_>, Option<usize>), Refusal> {
+    let (view, lost) = check_images(geometry, images, lost)?;
+    match view.collection().phase {
+        0 => Ok((view, lost)),
+        _ => Err(Refusal::Collection),
+    }
+}
+
 /// Refusals 1 to 7 of write, commit and collect; the request is held to the highest number of its
 /// kind, worked out from the shape.
-fn check_idle(
+fn check_request(
     geometry: Geometry,
     images: &Images,
     lost: u64,
     request: u64,
     highest: impl Fn(Shape) -> usize,
 ) -> Result<(View<'_>, Option<usize>), Refusal> {
-    let (view, lost) = check_images(geometry, images, lost)?;
-    if view.collection().phase != 0 {
-        return Err(Refusal::Collection);
-    }
+    let (view, lost) = check_idle(geometry, images, lost)?;
     if request > highest(view.shape) as u64 {
         return Err(Refusal::Request);
     }
@@ -750,7 +899,7 @@ fn check_write(
     page: u64,
     data: &[u8],
 ) -> Result<Shape, Refusal> {
-    let (view, lost) = check_idle(geometry, images, lost, page, |shape| shape.n * shape.s - 1)?;
+    let (view, lost) = check_request(geometry, images, lost, page, |shape| shape.n * shape.s - 1)?;
     if data.len() != view.shape.w {
         return Err(Refusal::Data);
     }
@@ -759,7 +908,7 @@ fn check_write(
 }
 
 fn check_commit(geometry: Geometry, images: &Images, lost: u64, stripe: u64) -> Result<Shape, Refusal> {
-    let (view, lost) = check_idle(geometry, images, lost, stripe, |shape| shape.s - 1)?;
+    let (view, lost) = check_request(geometry, images, lost, stripe, |shape| shape.s - 1)?;
     check_chip_set(lost)?;
     if view.record(stripe as usize).slot == NO_SLOT {
         return Err(Refusal::Work);
@@ -768,12 +917,42 @@ fn check_commit(geometry: Geometry, images: &Images, lost: u64, stripe: u64) -> 
 }
 
 fn check_collect(geometry: Geometry, images: &Images, lost: u64, chip: u64) -> Result<Shape, Refusal> {
-    let (view, lost) = check_idle(geometry, images, lost, chip, |shape| shape.n)?;
+    let (view, lost) = check_request(geometry, images, lost, chip, |shape| shape.n)?;
     check_chip_set(lost)?;
     if view.victim(chip as usize).is_none() {
         return Err(Refusal::Work);
     }
     Ok(view.shape)
+}
+
+/// What an addition writes: the page that its ticket falls in, "other bytes kept".
+struct Addition {
+    shape: Shape,
+    stripe: usize,
+    member: usize,
+    data: Vec<u8>,
+    /// The log's, "up to and including that page".
+    reads: u64,
+}
+
+/// "checked as a write (8 if not 16 bytes)"; then 11 for the ticket that is given, 11 for one that
+/// is found, and 12.
+fn check_add(geometry: Geometry, images: &Images, lost: u64, ticket: &[u8]) -> Result<Addition, Refusal> {
+    let (view, lost) = check_idle(geometry, images, lost)?;
+    if ticket.len() != TICKET_BYTES {
+        return Err(Refusal::Data);
+    }
+    check_chip_set(lost)?;
+    if !Ticket::from_bytes(ticket).keeps_rules() {
+        return Err(Refusal::Ticket);
+    }
+    let Log { reads, end } = view.walk_log(None, |_| {})?;
+    let LogEnd { stripe, member, at } = end.ok_or(Refusal::LogFull)?;
+    let mut data = vec![0; view.shape.w];
+    let chip = view.shape.member_chip(stripe, member);
+    view.add(&mut data, chip, view.record(stripe).current[member]);
+    data[at..at + TICKET_BYTES].copy_from_slice(ticket);
+    Ok(Addition { shape: view.shape, stripe, member, data, reads })
 }
 
 // ---------------------------------------------------------------------------------------------
@@ -1026,16 +1205,13 @@ pub fn read(geometry: Geometry, images: &Images, lost: u64, page: u64, buffer: &
     };
     let (stripe, member) = (page as usize / view.shape.n, page as usize % view.shape.n);
     let chip = view.shape.member_chip(stripe, member);
-    let reads = match view.record(stripe).current[member] {
+    let record = view.record(stripe);
+    let reads = match record.current[member] {
         NONE => {
             buffer.fill(0);
             0
         }
-        _ if lost == Some(chip) => {
-            let (rebuilt, reads) = view.rebuilt(stripe, member);
-            buffer.copy_from_slice(&rebuilt);
-            reads
-        }
+        _ if lost == Some(chip) => view.rebuild(stripe, &record, member, buffer),
         current => {
             buffer.copy_from_slice(view.data(chip, current as usize));
             1
@@ -1071,5 +1247,38 @@ pub fn collect(geometry: Geometry, images: &mut Images, lost: u64, chip: u64, al
     match check_collect(geometry, images, lost, chip) {
         Err(refusal) => Status::refused(refusal),
         Ok(shape) => carry_out(shape, images, allowance, |run| run.collect(chip as usize)),
+    }
+}
+
+/// "Adding one rewrites the page it falls in, other bytes kept; it .. counts the log's reads up to
+/// and including that page, even when cut, and the write's."
+pub fn add(geometry: Geometry, images: &mut Images, lost: u64, ticket: &[u8], allowance: u64) -> Status {
+    let addition = match check_add(geometry, images, lost, ticket) {
+        Err(refusal) => return Status::refused(refusal),
+        Ok(addition) => addition,
+    };
+    let Addition { shape, stripe, member, data, reads } = addition;
+    let mut status = carry_out(shape, images, allowance, |run| run.write(stripe, member, &data));
+    status.reads += reads;
+    status
+}
+
+/// "Of tickets with one lot and bag, the latest in the log stands; asked for lot and bag, the store
+/// gives the one standing if it is a weight, else none."
+pub fn find(geometry: Geometry, images: &Images, lost: u64, lot: u32, bag: u16) -> Finding {
+    let mut standing = None;
+    let log = check_images(geometry, images, lost).and_then(|(view, lost)| {
+        view.walk_log(lost, |ticket| {
+            if ticket.lot == lot && ticket.bag == bag {
+                standing = Some(*ticket);
+            }
+        })
+    });
+    match log {
+        Err(refusal) => Finding { status: Status::refused(refusal), weight: None },
+        Ok(Log { reads, .. }) => Finding {
+            status: Status { status: DONE, reads, ..Status::default() },
+            weight: standing.and_then(Ticket::weight),
+        },
     }
 }

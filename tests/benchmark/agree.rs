@@ -4,15 +4,18 @@
 use crate::breakers::BREAKERS;
 use crate::damage::change_byte;
 use crate::generator::{self, ALL};
-use crate::owned::{Calls, REFERENCE, THIRD, THIRD_NAME};
+use crate::owned::{Answer, Calls, REFERENCE, THIRD, THIRD_NAME};
 use crate::random::Random;
-use crate::reference::{Geometry, Images, Shape, Status, NO_CHIP};
+use crate::reference::{self, Geometry, Images, Shape, NO_CHIP, TICKET_BYTES};
+use crate::tickets;
 use crate::trio::fail;
 use crate::tuned::direct::MOST_BYTES;
 use std::sync::atomic::Ordering::Relaxed;
 
 const CASES: usize = 6_000;
 const CALLS: usize = 4;
+/// So many pages are filled with tickets at most.
+const MOST_FILLED: usize = 24;
 
 pub fn check() {
     let most_bytes = MOST_BYTES.load(Relaxed);
@@ -29,7 +32,9 @@ pub fn check() {
             let expected = asked.make(&REFERENCE, g, &mut images);
             let found = asked.make(&THIRD, g, &mut others);
             if found != expected || others != images {
-                fail(&format!("{THIRD_NAME}, case {case}, {g:?}, {asked:?}: {found:?}, expected {expected:?}"));
+                fail(&format!(
+                    "{THIRD_NAME}, case {case}, {g:?}, {asked:?}: {found:?}, expected {expected:?}"
+                ));
             }
         }
     }
@@ -51,7 +56,7 @@ fn geometry(random: &mut Random) -> Geometry {
     }
     let most = (b - 1) * k - m - 1;
     let s = if random.one_in(4) { random.between(1, most) } else { most };
-    let w = 16 * random.between(1, 2) as u64;
+    let w = 16 * if random.one_in(8) { random.between(3, 20) } else { random.between(1, 2) } as u64;
     Geometry { n, w, k: k as u64, b: b as u64, s: s as u64, m: m as u64 }
 }
 
@@ -59,7 +64,13 @@ fn geometry(random: &mut Random) -> Geometry {
 /// on the lost chip.
 fn images(random: &mut Random, g: Geometry, shape: Shape) -> (Images, u64) {
     let mut images = match random.one_in(2) && shape.pages() < 100 {
-        true => generator::by_calls(random, g, shape),
+        true => {
+            let mut images = generator::by_calls(random, g, shape);
+            if random.one_in(2) {
+                write_log(random, g, shape, &mut images);
+            }
+            images
+        }
         false => {
             let phase = random.pick(&[0, 0, 1, 2, 2]);
             generator::sound(random, shape, phase)
@@ -86,6 +97,24 @@ fn images(random: &mut Random, g: Geometry, shape: Shape) -> (Images, u64) {
     (images, chip as u64)
 }
 
+/// Writes tickets into the first pages, with one at times that breaks a rule, and then any page.
+fn write_log(random: &mut Random, g: Geometry, shape: Shape, images: &mut Images) {
+    reference::open(g, images, NO_CHIP, ALL);
+    let filled = random.below((shape.n * shape.s).min(MOST_FILLED) + 1);
+    for page in 0..filled {
+        let mut data = tickets::tickets(random, shape.w / TICKET_BYTES);
+        if random.one_in(40) {
+            tickets::spoil(random, &mut data);
+        }
+        reference::write(g, images, NO_CHIP, page as u64, &data, ALL);
+    }
+    let data = tickets::ticket_page(random, shape.w);
+    reference::write(g, images, NO_CHIP, filled as u64, &data, ALL);
+    if random.one_in(4) {
+        generator::leave_collection(random, g, shape, images);
+    }
+}
+
 /// A call with all its arguments.
 #[derive(Debug)]
 struct Asked {
@@ -93,14 +122,19 @@ struct Asked {
     lost: u64,
     number: u64,
     bytes: Vec<u8>,
+    ticket: Vec<u8>,
+    lot_and_bag: (u32, u16),
     allowance: u64,
 }
+
+/// The kinds of calls, each as often as it is made; the last two are those of the log.
+const KINDS: [usize; 19] = [0, 1, 1, 2, 2, 3, 3, 3, 3, 4, 4, 5, 5, 6, 6, 6, 7, 7, 7];
 
 impl Asked {
     /// Mostly within the limits.
     fn any(random: &mut Random, shape: Shape, lost: u64) -> Asked {
-        let kind = random.pick(&[0, 1, 1, 2, 2, 3, 3, 3, 3, 4, 4, 5, 5]);
-        let highest = [0, 0, shape.n * shape.s, shape.n * shape.s, shape.s, shape.n + 1][kind];
+        let kind = random.pick(if THIRD.tickets.is_some() { &KINDS } else { &KINDS[..13] });
+        let highest = [0, 0, shape.n * shape.s, shape.n * shape.s, shape.s, shape.n + 1, 0, 0][kind];
         let lost = if random.one_in(16) { random.below(shape.n + 3) as u64 } else { lost };
         let number = match random.one_in(16) {
             true => random.pick(&[highest as u64, ALL]),
@@ -111,21 +145,25 @@ impl Asked {
             0 => random.below(2 * shape.k + 8) as u64,
             _ => ALL,
         };
-        Asked { kind, lost, number, bytes: random.bytes(len), allowance }
+        let (ticket, lot_and_bag) = (tickets::any_ticket(random), tickets::lot_and_bag(random));
+        Asked { kind, lost, number, bytes: random.bytes(len), ticket, lot_and_bag, allowance }
     }
 
     /// The answer, and the bytes that a read leaves.
-    fn make(&self, by: &Calls, g: Geometry, images: &mut Images) -> (Status, Vec<u8>) {
-        let &Asked { kind, lost, number, allowance, .. } = self;
+    fn make(&self, by: &Calls, g: Geometry, images: &mut Images) -> (Answer, Vec<u8>) {
+        let &Asked { kind, lost, number, allowance, lot_and_bag: (lot, bag), .. } = self;
         let mut bytes = self.bytes.clone();
+        let tickets = || by.tickets.as_ref().expect("calls of the log");
         let status = match kind {
             0 => (by.format)(g, images, allowance),
             1 => (by.open)(g, images, lost, allowance),
             2 => (by.read)(g, images, lost, number, &mut bytes),
             3 => (by.write)(g, images, lost, number, &bytes, allowance),
             4 => (by.commit)(g, images, lost, number, allowance),
-            _ => (by.collect)(g, images, lost, number, allowance),
+            5 => (by.collect)(g, images, lost, number, allowance),
+            6 => (tickets().add)(g, images, lost, &self.ticket, allowance),
+            _ => return ((tickets().find)(g, images, lost, lot, bag), bytes),
         };
-        (status, bytes)
+        ((status, [0; 3]), bytes)
     }
 }

@@ -1,10 +1,13 @@
 //! The library as it was: the exports of another archive, with `before_` in front of their names.
 
-use crate::library::{Geometry, Report};
+use crate::library::{FindReport, Geometry, Report};
+use crate::owned::Tickets;
 use crate::reference::{self, Images, Status};
 
 macro_rules! exports {
     ($($export:ident($($argument:ident: $type:ty $([$len:ident])?,)*) -> $answer:ty;)*) => {
+        // an archive of before the tickets lacks two of them
+        #[allow(dead_code)]
         extern "C" {
             $(
                 #[link_name = concat!("before_", stringify!($export))]
@@ -59,4 +62,20 @@ pub fn commit(g: reference::Geometry, images: &mut Images, lost: u64, stripe: u6
 
 pub fn collect(g: reference::Geometry, images: &mut Images, lost: u64, chip: u64, allowance: u64) -> Status {
     call!(vazhettu_collect, g, images, as_mut_ptr, lost, chip, allowance)
+}
+
+#[cfg(not(before_tickets))]
+pub const TICKETS: Option<Tickets> = None;
+
+#[cfg(before_tickets)]
+pub const TICKETS: Option<Tickets> = Some(Tickets { add, find });
+
+#[cfg(before_tickets)]
+fn add(g: reference::Geometry, images: &mut Images, lost: u64, ticket: &[u8], allowance: u64) -> Status {
+    call!(vazhettu_add, g, images, as_mut_ptr, lost, ticket.as_ptr(), ticket.len(), allowance)
+}
+
+#[cfg(before_tickets)]
+fn find(g: reference::Geometry, images: &Images, lost: u64, lot: u32, bag: u16) -> crate::owned::Answer {
+    call!(vazhettu_find, g, images, as_ptr, lost, lot, bag)
 }

@@ -2,14 +2,19 @@
 
 use crate::clock::{Best, Caches, Clock, Race, Taken};
 use crate::floor::Floor;
-use crate::images::{self, Order};
+use crate::images::Order;
+use crate::log::Passes;
+use crate::owned::Answer;
 use crate::patch::Patch;
-use crate::plans::Plan;
+use crate::plans::{Kind, Plan};
 use crate::random::Random;
 use crate::reference::*;
-use crate::rows::Row;
+use crate::rows::{Row, LOST};
 use crate::setup::{Setup, Steps};
 use crate::trio::{fail, By, Times, Trio};
+
+/// Columns for passes over a log.
+pub const COLUMNS: usize = 3;
 
 /// Best times of a row in microseconds, and the counts that the call answers.
 #[derive(Clone, Copy)]
@@ -19,6 +24,8 @@ pub struct Measured {
     pub reference: f64,
     pub third: f64,
     pub floor: f64,
+    /// In the columns that the passes of the row have.
+    pub passes: [Option<f64>; COLUMNS],
     pub settled: bool,
     pub counts: Status,
 }
@@ -34,16 +41,17 @@ pub struct Bench {
 /// A row, what its call answers, and how to take the call back.
 struct Known {
     row: Row,
-    counts: Status,
+    answer: Answer,
     back: Patch,
 }
 
 impl Bench {
     pub fn new(random: &mut Random, plan: &Plan, geometry: Geometry, order: Order) -> Bench {
         let shape = geometry.shape().expect("within the limits");
-        let images = images::build(random, shape, order);
+        let images = (plan.images)(random, shape, order);
         let mut trio = Trio::new(geometry, &images, plan.copies, random);
-        let floor = Floor::new(shape, &images, plan.copies);
+        let passes = (plan.kind == Kind::Tickets).then(|| Passes::new(images.view(shape), LOST));
+        let floor = Floor::new(shape, &images, plan.copies, passes);
         let mut setups: Vec<(Setup, Steps)> = Vec::new();
         let mut rows = Vec::new();
         for row in (plan.rows)(images.view(shape)) {
@@ -55,6 +63,7 @@ impl Bench {
             rows.push(first_call(row, &mut trio));
             steps.take_back(&mut trio);
         }
+        rows.iter().for_each(|known| known.check_passes(&floor));
         Bench { trio, floor, copies: plan.copies, setups, rows }
     }
 
@@ -74,9 +83,21 @@ impl Bench {
 
     fn measured(&self, taken: &[Taken]) -> Vec<Measured> {
         let measured = |(known, taken): (&Known, &Taken)| {
-            let [library, reference, third, floor] = taken.best.map(|best| best.first);
-            let settled = taken.best.iter().all(Best::settled);
-            Measured { row: known.row, library, reference, third, floor, settled, counts: known.counts }
+            let best = |turn: usize| taken.best[turn].first;
+            let mut passes = [None; COLUMNS];
+            for (i, pass) in known.row.passes.iter().enumerate() {
+                passes[pass.column()] = Some(best(FLOOR + 1 + i));
+            }
+            Measured {
+                row: known.row,
+                library: best(LIBRARY),
+                reference: best(REFERENCE),
+                third: best(THIRD),
+                floor: best(FLOOR),
+                passes,
+                settled: taken.best.iter().all(Best::settled),
+                counts: known.answer.0,
+            }
         };
         self.rows.iter().zip(taken).map(measured).collect()
     }
@@ -84,19 +105,33 @@ impl Bench {
 
 /// All implementations must agree before any time is taken.
 fn first_call(row: Row, trio: &mut Trio) -> Known {
-    let (counts, back) = trio.by_all(row.call, u64::MAX);
-    if counts.status != row.answer {
-        fail(&format!("{}: {counts:?}", row.name));
+    let (answer, back) = trio.by_all(row.call, u64::MAX);
+    if (answer.0.status, answer.1) != (row.answer, row.standing) {
+        fail(&format!("{}: {answer:?}", row.name));
     }
     trio.put(&back);
-    Known { row, counts, back }
+    Known { row, answer, back }
+}
+
+impl Known {
+    fn turns(&self) -> usize {
+        FLOOR + 1 + self.row.passes.len()
+    }
+
+    /// A pass goes over as many pages as the call counts.
+    fn check_passes(&self, floor: &Floor) {
+        let counts = self.answer.0;
+        if self.row.passes.iter().any(|&pass| floor.reads(pass) as u64 != counts.reads) {
+            fail(&format!("{}: {counts:?}, and other passes", self.row.name));
+        }
+    }
 }
 
 /// The times of each row on each of the stores. Rows and stores get a round after the other, until each has
 /// enough: so what slows the machine down for a while does not fall on one row alone.
 pub fn measure(benches: &mut [Bench], clock: &Clock, caches: Caches) -> Vec<Vec<Measured>> {
-    let mut taken: Vec<Vec<Taken>> =
-        benches.iter().map(|bench| vec![Taken::new(); bench.rows.len()]).collect();
+    let taken = |bench: &Bench| bench.rows.iter().map(|known| Taken::new(known.turns())).collect();
+    let mut taken: Vec<Vec<Taken>> = benches.iter().map(taken).collect();
     while taken.iter().flatten().any(|taken| clock.due(taken)) {
         for (bench, taken) in benches.iter_mut().zip(&mut taken) {
             bench.pass(clock, caches, taken);
@@ -105,7 +140,7 @@ pub fn measure(benches: &mut [Bench], clock: &Clock, caches: Caches) -> Vec<Vec<
     benches.iter().zip(&taken).map(|(bench, taken)| bench.measured(taken)).collect()
 }
 
-/// One row's call: by each implementation, and its floor.
+/// One row's call: by each implementation, its floor, and the passes beside it.
 struct Sides<'a> {
     known: &'a Known,
     trio: &'a mut Trio,
@@ -116,17 +151,38 @@ struct Sides<'a> {
 const LIBRARY: usize = 0;
 const REFERENCE: usize = 1;
 const THIRD: usize = 2;
+const FLOOR: usize = 3;
 
 impl Race for Sides<'_> {
+    fn turns(&self) -> usize {
+        self.known.turns()
+    }
+
+    /// The passes take the floor's.
+    fn shares_images(&self) -> bool {
+        !self.known.row.passes.is_empty()
+    }
+
+    /// A pass finds the caches as a walk does, which begins when the images have been looked at.
+    fn prepare(&mut self, turn: usize) {
+        if turn > FLOOR {
+            self.floor.begin_pass(self.known.row.scan);
+        }
+    }
+
     fn run(&mut self, turn: usize, repeats: usize) {
-        let Known { row, counts, .. } = self.known;
-        let times = Times { repeats, allowance: u64::MAX, expected: *counts };
+        let Known { row, answer, .. } = self.known;
+        let times = Times { repeats, allowance: u64::MAX, expected: *answer };
         let other = match turn {
             LIBRARY => self.trio.by_library(row.call, times),
             REFERENCE => self.trio.by_owner(By::Reference, row.call, times),
             THIRD => self.trio.by_owner(By::Third, row.call, times),
-            _ => {
-                self.floor.run(row.scan, *counts, repeats);
+            FLOOR => {
+                self.floor.run(row.scan, answer.0, repeats);
+                None
+            }
+            pass => {
+                self.floor.pass(row.passes[pass - FLOOR - 1]);
                 None
             }
         };

@@ -1,4 +1,4 @@
-//! Times of four things, taken turn by turn.
+//! Times of several things, taken turn by turn.
 
 use std::hint::black_box;
 use std::time::Instant;
@@ -28,6 +28,12 @@ const MOST_TIMES: usize = 4;
 const NEAR: f64 = 1.05;
 
 pub trait Race {
+    /// How many things have their turns.
+    fn turns(&self) -> usize;
+    /// Whether some of them have their images in common: then with swept caches each turn begins with a sweep.
+    fn shares_images(&self) -> bool;
+    /// What is not timed of a turn's run, ahead of it.
+    fn prepare(&mut self, turn: usize);
     /// A run is so many calls on each of so many copies of the images.
     fn run(&mut self, turn: usize, repeats: usize);
     /// Leaves what the run of that turn changed as it was.
@@ -36,8 +42,6 @@ pub trait Race {
     /// With warm caches; with swept ones a second call would find another state of the caches.
     fn repeats(&self) -> usize;
 }
-
-pub const TURNS: usize = 4;
 
 /// The best times of two turns of one thing, in microseconds.
 #[derive(Clone, Copy)]
@@ -65,16 +69,15 @@ impl Best {
     }
 }
 
-/// The rounds that one row has had.
-#[derive(Clone, Copy)]
+/// The rounds that one row has had, and the best of each turn.
 pub struct Taken {
     rounds: usize,
-    pub best: [Best; TURNS],
+    pub best: Vec<Best>,
 }
 
 impl Taken {
-    pub fn new() -> Taken {
-        Taken { rounds: 0, best: [Best::new(); TURNS] }
+    pub fn new(turns: usize) -> Taken {
+        Taken { rounds: 0, best: vec![Best::new(); turns] }
     }
 }
 
@@ -96,10 +99,12 @@ impl Clock {
 
     /// Each has its turn, another one first each time.
     pub fn round(&self, caches: Caches, race: &mut impl Race, taken: &mut Taken) {
-        if caches == Caches::Swept {
-            self.sweep();
-        }
-        for turn in (0..TURNS).map(|i| (taken.rounds + i) % TURNS) {
+        let turns = race.turns();
+        for i in 0..turns {
+            if caches == Caches::Swept && (i == 0 || race.shares_images()) {
+                self.sweep();
+            }
+            let turn = (taken.rounds + i) % turns;
             taken.best[turn].add(match caches {
                 Caches::Swept => run(race, turn, 1),
                 Caches::Warm => run_warm(race, turn),
@@ -130,6 +135,7 @@ fn run_warm(race: &mut impl Race, turn: usize) -> f64 {
 
 /// The time of one call.
 fn run(race: &mut impl Race, turn: usize, repeats: usize) -> f64 {
+    race.prepare(turn);
     let start = Instant::now();
     race.run(turn, repeats);
     let time = start.elapsed().as_secs_f64() * 1e6;

@@ -1,5 +1,7 @@
-//! The floor: the least that any program must do that answers a call, written plainly.
+//! The floor: the least that any program must do that answers a call, written plainly; and the plain passes over a
+//! log.
 
+use crate::log::{Pass, Passes};
 use crate::patch::Patch;
 use crate::placed;
 use crate::reference::*;
@@ -18,6 +20,7 @@ pub enum Scan {
 /// Images of its own, so that no call finds in the caches what the floor has brought there.
 pub struct Floor {
     copies: Vec<Copy>,
+    passes: Option<Passes>,
 }
 
 struct Copy {
@@ -26,15 +29,30 @@ struct Copy {
 }
 
 impl Floor {
-    pub fn new(shape: Shape, images: &Images, copies: usize) -> Floor {
+    pub fn new(shape: Shape, images: &Images, copies: usize, passes: Option<Passes>) -> Floor {
         let copy = |_| Copy { shape, images: placed::owned(images) };
-        Floor { copies: (0..copies).map(copy).collect() }
+        Floor { copies: (0..copies).map(copy).collect(), passes }
     }
 
     pub fn run(&mut self, scan: Scan, counts: Status, repeats: usize) {
         for copy in &mut self.copies {
             (0..repeats).for_each(|_| copy.run(scan, counts));
         }
+    }
+
+    /// As a call that walks the log begins: with the scan.
+    pub fn begin_pass(&self, scan: Scan) {
+        black_box(self.copies[0].scan(scan));
+    }
+
+    pub fn pass(&mut self, pass: Pass) {
+        let chips = black_box(&self.copies[0].images.chips);
+        self.passes.as_mut().expect("images with a log").run(chips, pass);
+    }
+
+    /// How many pages a pass goes over.
+    pub fn reads(&self, pass: Pass) -> usize {
+        self.passes.as_ref().expect("images with a log").reads(pass)
     }
 
     pub fn put(&mut self, patch: &Patch) {

@@ -1,5 +1,6 @@
 //! Sound images, nearly full: what the calls of the benchmark find.
 
+use crate::log::Log;
 use crate::random::Random;
 use crate::reference::*;
 
@@ -29,15 +30,21 @@ enum Kind {
 /// whichever block a collection takes, most of it is copied.
 pub fn build(random: &mut Random, shape: Shape, order: Order) -> Images {
     let kinds = kinds(random, shape, order);
-    let mut builder = Builder::new(random, shape, order);
-    for (stripe, kind) in kinds.into_iter().enumerate() {
-        match kind {
-            Kind::Written => builder.write_stripe(stripe, None),
-            Kind::Slotted(slot) => builder.write_stripe(stripe, Some(slot)),
-            Kind::Empty => builder.leave_empty(stripe),
-        }
+    Builder::new(random, shape, order, 0).build(kinds)
+}
+
+/// The same with a log of tickets in its pages, whose last stripe has a slot; and on each chip one page is left for an
+/// addition.
+pub fn build_log(random: &mut Random, shape: Shape, order: Order) -> Images {
+    let log = Log::of(shape);
+    let mut kinds = kinds(random, shape, order);
+    let slotted = (log.end..shape.s).chain(0..log.end).find(|&j| matches!(kinds[j], Kind::Slotted(_)));
+    kinds.swap(log.end, slotted.expect("M is at least 1"));
+    for kind in kinds[..log.end].iter_mut().filter(|kind| matches!(kind, Kind::Empty)) {
+        *kind = Kind::Written;
     }
-    builder.finish()
+    let content = log.content(random);
+    Builder { content, ..Builder::new(random, shape, order, 1) }.build(kinds)
 }
 
 fn kinds(random: &mut Random, shape: Shape, order: Order) -> Vec<Kind> {
@@ -62,23 +69,40 @@ fn kinds(random: &mut Random, shape: Shape, order: Order) -> Vec<Kind> {
 struct Builder {
     shape: Shape,
     images: Images,
-    /// For each chip, the pages still to be used, from the last on; the last block stays clean.
+    /// For each chip, the pages still to be used, from the last on.
     pools: Vec<Vec<usize>>,
+    /// The pages of each chip from this one on stay clean.
+    clean: usize,
+    /// What the first members hold, end to end; the others hold anything.
+    content: Vec<u8>,
 }
 
 impl Builder {
-    fn new(random: &mut Random, shape: Shape, order: Order) -> Builder {
+    /// So many pages of each chip are left, beside the last block.
+    fn new(random: &mut Random, shape: Shape, order: Order, left: usize) -> Builder {
         let [chips, records, slots] = shape.lengths();
         let images = Images { chips: random.bytes(chips), records: vec![0; records], slots: vec![0; slots] };
+        let clean = shape.pages() - shape.k - left;
         let mut pool = || {
-            let mut pool: Vec<usize> = (0..shape.pages() - shape.k).rev().collect();
+            let mut pool: Vec<usize> = (0..clean).rev().collect();
             if order == Order::Shuffled {
                 random.shuffle(&mut pool);
             }
             pool
         };
         let pools = (0..=shape.n).map(|_| pool()).collect();
-        Builder { shape, images, pools }
+        Builder { shape, images, pools, clean, content: Vec::new() }
+    }
+
+    fn build(mut self, kinds: Vec<Kind>) -> Images {
+        for (stripe, kind) in kinds.into_iter().enumerate() {
+            match kind {
+                Kind::Written => self.write_stripe(stripe, None),
+                Kind::Slotted(slot) => self.write_stripe(stripe, Some(slot)),
+                Kind::Empty => self.leave_empty(stripe),
+            }
+        }
+        self.finish()
     }
 
     /// Takes the next page of a chip and stamps it with what the stripe has there.
@@ -106,6 +130,7 @@ impl Builder {
             let chip = shape.member_chip(stripe, m);
             let earlier = slot.map(|_| self.take(chip, stripe));
             let current = self.take(chip, stripe);
+            self.fill(chip, current, stripe * shape.n + m);
             record.current[m] = current;
             match earlier {
                 Some(old) if IN_PARTIAL.contains(&m) => {
@@ -124,6 +149,15 @@ impl Builder {
         }
         record.parity = self.store_parity(stripe, &parity);
         self.store_record(stripe, record.to_bytes());
+    }
+
+    /// A page gets what the member of that number is to hold, if anything.
+    fn fill(&mut self, chip: usize, page: u16, member: usize) {
+        let w = self.shape.w;
+        if let Some(content) = self.content.chunks_exact(w).nth(member) {
+            let at = self.shape.page_at(chip, page as usize);
+            self.images.chips[at..at + w].copy_from_slice(content);
+        }
     }
 
     fn store_parity(&mut self, stripe: usize, parity: &[u8]) -> u16 {
@@ -153,14 +187,14 @@ impl Builder {
         self.images.records[index * RECORD_BYTES..][..RECORD_BYTES].copy_from_slice(&bytes);
     }
 
-    /// The pages left over are used too; the last block of each chip is clean.
+    /// The pages left over are used too, but for those that stay clean.
     fn finish(mut self) -> Images {
         let shape = self.shape;
         for chip in 0..=shape.n {
             while !self.pools[chip].is_empty() {
                 self.take(chip, shape.s - 1);
             }
-            let from = shape.page_at(chip, shape.pages() - shape.k);
+            let from = shape.page_at(chip, self.clean);
             let to = shape.page_at(chip, shape.pages());
             self.images.chips[from..to].fill(255);
         }

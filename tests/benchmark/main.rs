@@ -4,7 +4,7 @@
 //!
 //!     benchmark [ROUNDS [W]] [sequence|shuffled] [swept|warm] [TABLE..] [--markdown]
 //!
-//! where TABLE is sizes, small, K2, phases or refused.
+//! where TABLE is sizes, small, K2, phases, refused or tickets.
 //! docs/BENCHMARKS.md tells what the rows are and how the times are taken.
 
 #[path = "../compare/breakers.rs"]
@@ -25,6 +25,9 @@ mod random;
 #[path = "../reference.rs"]
 #[allow(dead_code)]
 mod reference;
+#[path = "../compare/tickets.rs"]
+#[allow(dead_code)]
+mod tickets;
 
 mod agree;
 #[cfg(before)]
@@ -34,6 +37,7 @@ mod clock;
 mod floor;
 mod grid;
 mod images;
+mod log;
 mod owned;
 mod patch;
 mod placed;
@@ -49,19 +53,20 @@ mod tuned;
 use bench::{measure, Bench};
 use clock::{Caches, Clock};
 use images::Order;
-use plans::{Plan, PLANS};
+use owned::THIRD;
+use plans::{Kind, Plan, PLANS};
 use random::Random;
 use report::Report;
 use std::process::exit;
 use table::{Setting, Table};
 
 const USAGE: &str = "usage: benchmark [ROUNDS [W]] [sequence|shuffled] [swept|warm] [TABLE..] [--markdown]
-TABLE: sizes, small, K2, phases, refused";
+TABLE: sizes, small, K2, phases, refused, tickets";
 
 /// What is asked for on the command line.
 struct Request {
     rounds: usize,
-    widths: Vec<u64>,
+    width: Option<u64>,
     orders: Vec<Order>,
     caches: Vec<Caches>,
     plans: Vec<&'static Plan>,
@@ -73,7 +78,7 @@ impl Request {
     fn parse(words: impl Iterator<Item = String>) -> Option<Request> {
         let mut request = Request {
             rounds: 9,
-            widths: vec![16, 512],
+            width: None,
             orders: vec![Order::Sequence, Order::Shuffled],
             caches: vec![Caches::Swept, Caches::Warm],
             plans: Vec::new(),
@@ -87,14 +92,14 @@ impl Request {
                 "swept" => request.caches = vec![Caches::Swept],
                 "warm" => request.caches = vec![Caches::Warm],
                 "--markdown" => request.markdown = true,
-                word => match PLANS.iter().find(|plan| plan.word == word) {
+                word => match plans().find(|plan| plan.word == word) {
                     Some(plan) => request.plans.push(plan),
                     None => numbers.push(word.parse::<u64>().ok()?),
                 },
             }
         }
         if request.plans.is_empty() {
-            request.plans = PLANS.iter().collect();
+            request.plans = plans().collect();
         }
         request.take_numbers(&numbers).then_some(request)
     }
@@ -104,21 +109,29 @@ impl Request {
         if let Some(&rounds) = numbers.first() {
             self.rounds = rounds as usize;
         }
-        if let Some(&w) = numbers.get(1) {
-            self.widths = vec![w];
-        }
+        self.width = numbers.get(1).copied();
         let fits = |w: u64| (PLANS[0].stores)(w)[0].shape().is_some();
-        self.widths.iter().all(|&w| fits(w)) && self.rounds > 0 && numbers.len() <= 2
+        self.width.is_none_or(fits) && self.rounds > 0 && numbers.len() <= 2
     }
 
-    /// Page sizes and orders of a plan: all that are asked for, or the smallest page and the last order.
-    fn settings(&self, plan: &Plan) -> Vec<(u64, Order)> {
-        if !plan.all_settings {
-            return vec![(self.widths[0], self.orders[self.orders.len() - 1])];
-        }
-        let each = |&w: &u64| self.orders.iter().map(move |&order| (w, order));
-        self.widths.iter().flat_map(each).collect()
+    fn widths(&self, plan: &Plan) -> Vec<u64> {
+        self.width.map_or_else(|| plan.widths.to_vec(), |w| vec![w])
     }
+
+    /// Page sizes and orders of a plan: all that are asked for, or the last order alone.
+    fn settings(&self, plan: &Plan) -> Vec<(u64, Order)> {
+        let orders = match plan.kind {
+            Kind::Sizes | Kind::Tickets => &self.orders[..],
+            Kind::Further | Kind::Refused => &self.orders[self.orders.len() - 1..],
+        };
+        let each = |w: u64| orders.iter().map(move |&order| (w, order));
+        self.widths(plan).into_iter().flat_map(each).collect()
+    }
+}
+
+/// All but what the third implementation lacks.
+fn plans() -> impl Iterator<Item = &'static Plan> {
+    PLANS.iter().filter(|plan| plan.kind != Kind::Tickets || THIRD.tickets.is_some())
 }
 
 fn main() {
@@ -129,7 +142,7 @@ fn main() {
     agree::check();
     let report = Report { markdown: request.markdown };
     println!("Best of {} rounds or more.", request.rounds);
-    request.plans.iter().for_each(|plan| report.stores(plan, &(plan.stores)(request.widths[0])));
+    request.plans.iter().for_each(|plan| report.stores(plan, &request.widths(plan)));
     let clock = Clock::new(request.rounds, request.caches.contains(&Caches::Swept));
     let mut random = Random::new(1);
     let mut tables = Vec::new();
@@ -141,8 +154,11 @@ fn main() {
             for &caches in &request.caches {
                 let times = measure(&mut benches, &clock, caches);
                 let table = Table::new(plan, &stores, Setting { w, order, caches }, times);
-                report.measured(&table);
-                tables.push(table);
+                let walks = table.walks();
+                for table in [Some(table), walks].into_iter().flatten() {
+                    report.measured(&table);
+                    tables.push(table);
+                }
             }
         }
     }

@@ -3,7 +3,7 @@
 use crate::bench::Measured;
 use crate::grid::Grid;
 use crate::owned::THIRD_NAME;
-use crate::plans::Plan;
+use crate::plans::{Kind, Plan};
 use crate::reference::Geometry;
 use crate::table::{cell, Line, Table};
 
@@ -12,12 +12,17 @@ pub struct Report {
 }
 
 impl Report {
-    pub fn stores(&self, plan: &Plan, stores: &[Geometry]) {
-        let each = |number: fn(&Geometry) -> u64| {
-            stores.iter().map(number).map(grouped).collect::<Vec<_>>().join(", ")
-        };
-        let (b, s, m) = (each(|g| g.b), each(|g| g.s), each(|g| g.m));
-        println!("\n`{}`: {}. B = {b}; S = {s}; M = {m}.", plan.word, plan.about);
+    pub fn stores(&self, plan: &Plan, widths: &[u64]) {
+        let mut told = Vec::new();
+        for &w in widths {
+            let stores: Vec<Geometry> = (plan.stores)(w).iter().map(|g| Geometry { w: 0, ..*g }).collect();
+            match told.is_empty() {
+                true => println!("\n`{}`: {}. {}", plan.word, plan.about, numbers(&stores)),
+                false if told != stores => println!("With W = {}: {}", grouped(w), numbers(&stores)),
+                false => {}
+            }
+            told = stores;
+        }
     }
 
     /// One table, as soon as it is measured; a page in Markdown begins with the summary instead.
@@ -28,16 +33,16 @@ impl Report {
     }
 
     pub fn finish(&self, tables: &[Table]) {
-        let sizes: Vec<&Table> = tables.iter().filter(|table| table.plan.all_settings).collect();
-        if !sizes.is_empty() {
-            self.worst(&sizes);
-        }
+        let sizes: Vec<&Table> = tables.iter().filter(|table| table.plan.kind == Kind::Sizes).collect();
+        self.worst("Worst ratios", &sizes);
+        let walks: Vec<&Table> = tables.iter().filter(|table| table.walks).collect();
+        self.worst("Worst ratios of walks of the log alone", &walks);
         self.misses(tables);
         if self.markdown {
             tables.iter().for_each(|table| self.table(table));
         }
         let mut told: Vec<&str> = Vec::new();
-        for table in tables.iter().filter(|table| !table.plan.refused) {
+        for table in tables.iter().filter(|table| table.plan.kind != Kind::Refused) {
             if !told.contains(&table.plan.word) {
                 told.push(table.plan.word);
                 self.counts(table);
@@ -65,8 +70,11 @@ impl Report {
     }
 
     /// The worst ratios of each row over all tables and stores.
-    fn worst(&self, tables: &[&Table]) {
-        self.heading("Worst ratios");
+    fn worst(&self, heading: &str, tables: &[&Table]) {
+        if tables.is_empty() {
+            return;
+        }
+        self.heading(heading);
         let ratios = tables[0].ratios();
         let heads = ratios.iter().flat_map(|ratio| [ratio.head, "where"]);
         let head = ["call"].into_iter().chain(heads).map(String::from).collect();
@@ -75,11 +83,13 @@ impl Report {
             for ratio in &ratios {
                 let places = tables.iter().flat_map(|table| {
                     let values = table.values(ratio, &table.lines[row]).into_iter().flatten();
-                    let place = |pages: &u64| format!("{}, {} pages", table.title(), grouped(*pages));
+                    let place = |pages: &u64| format!("{}, {} pages", table.setting, grouped(*pages));
                     values.zip(table.pages.iter().map(place))
                 });
-                let (worst, place) = places.max_by(|a, b| a.0.total_cmp(&b.0)).expect("stores");
-                cells.extend([cell(Some(worst)), place]);
+                let worst = places.max_by(|a, b| a.0.total_cmp(&b.0));
+                let (worst, place) =
+                    worst.map_or((None, String::new()), |(worst, place)| (Some(worst), place));
+                cells.extend([cell(worst), place]);
             }
             cells
         };
@@ -94,7 +104,7 @@ impl Report {
             println!("All within the aims.");
         }
         misses.iter().for_each(|miss| println!("- {miss}"));
-        let all = || tables.iter().flat_map(Table::measured);
+        let all = || tables.iter().filter(|table| !table.walks).flat_map(Table::measured);
         let unsettled = all().filter(|measured| !measured.settled).count();
         println!("\nNot settled: {unsettled} of {}.", all().count());
     }
@@ -115,7 +125,7 @@ fn times_head(table: &Table) -> Vec<String> {
     }
     if grows(table) {
         let growth = |two: &[u64]| format!("growth ({:.2})", two[1] as f64 / two[0] as f64);
-        head.extend(table.pages.windows(2).map(growth));
+        head.extend(table.sizes.windows(2).map(growth));
     }
     head
 }
@@ -126,7 +136,8 @@ fn times_line(table: &Table, line: &Line) -> Vec<String> {
         let mark = if at.settled { "" } else { "~" };
         cells.push(format!("{mark}{}", microseconds(at.library)));
         if i + 1 == line.at.len() {
-            cells.extend(others(table).iter().map(|(_, time)| microseconds(time(at))));
+            let time = |other: &Other| other.1(at).map(microseconds).unwrap_or_default();
+            cells.extend(others(table).iter().map(time));
         }
         cells.extend(table.ratios().iter().map(|ratio| cell((ratio.value)(table, at, i))));
     }
@@ -136,16 +147,29 @@ fn times_line(table: &Table, line: &Line) -> Vec<String> {
     cells
 }
 
-type Other = (&'static str, fn(&Measured) -> f64);
+type Other = (&'static str, fn(&Measured) -> Option<f64>);
 
 /// Whose times stand beside the library's, on the largest store.
 fn others(table: &Table) -> Vec<Other> {
     let mut others: Vec<Other> =
-        vec![("reference", |measured| measured.reference), (THIRD_NAME, |measured| measured.third)];
-    if !table.plan.refused {
-        others.push(("floor", |measured| measured.floor));
+        vec![("reference", |at| Some(at.reference)), (THIRD_NAME, |at| Some(at.third))];
+    if table.walks {
+        others.extend::<[Other; 3]>([
+            ("copy", |at| at.passes[0]),
+            ("reads", |at| at.passes[1]),
+            ("gathered", |at| at.passes[2]),
+        ]);
+    } else if table.plan.kind != Kind::Refused {
+        others.push(("floor", |at| Some(at.floor)));
     }
     others
+}
+
+/// B, S and M of each store.
+fn numbers(stores: &[Geometry]) -> String {
+    let each =
+        |number: fn(&Geometry) -> u64| stores.iter().map(number).map(grouped).collect::<Vec<_>>().join(", ");
+    format!("B = {}; S = {}; M = {}.", each(|g| g.b), each(|g| g.s), each(|g| g.m))
 }
 
 /// Where all calls are to grow as the pages do.

@@ -1,6 +1,7 @@
 //! The rows of the tables: which call is made, on which images.
 
 use crate::floor::Scan;
+use crate::log::{Log, Pass};
 use crate::reference::*;
 use crate::setup::Setup;
 use crate::trio::Call;
@@ -11,12 +12,18 @@ pub struct Row {
     pub setup: Setup,
     pub call: Call,
     pub scan: Scan,
-    /// Done, or the number of the refusal.
+    /// Done, cut, or the number of the refusal.
     pub answer: u64,
+    /// Whether a weight stands, gross and tare.
+    pub standing: [u64; 3],
     /// How many calls one time is taken of.
     pub repeats: usize,
     /// The row whose time this one's is held to.
     pub beside: Option<&'static str>,
+    /// Of a call that walks the log, the row that does as much but for the walk.
+    pub without_walk: Option<&'static str>,
+    /// Plain passes over the log that are timed too.
+    pub passes: &'static [Pass],
 }
 
 /// For a call of a few nanoseconds, less than the clock can tell.
@@ -123,11 +130,57 @@ pub fn refusals(view: View) -> Vec<Row> {
     ]
 }
 
+/// The chip that is lost in a walk of the log: a fifth of the pages is on it.
+pub const LOST: usize = 0;
+
+/// Calls that walk the log, each with one that does as much but for the walk.
+pub fn tickets(view: View) -> Vec<Row> {
+    let log = Log::of(view.shape);
+    let (first, last) = (log.ticket_at(view, 0), log.ticket_at(view, log.tickets - 1));
+    let none = Ticket { kind: WITHDRAWAL, lot: u32::MAX, ..last };
+    let plain = |name, call| row(name, Setup::Full, call);
+    let walk = |name, call, without| Row { without_walk: Some(without), ..plain(name, call) };
+    let find = |name, lost, ticket: Ticket, without| {
+        let Ticket { kind, lot, bag, gross, tare, .. } = ticket;
+        let standing = if kind == WEIGHT { [1, gross as u64, tare as u64] } else { [0; 3] };
+        Row { standing, ..walk(name, Call::Find { lost, lot, bag }, without) }
+    };
+    let page = (log.end * view.shape.n) as u64;
+    let (open, open_lost) = ("open", "open with a chip lost");
+    let (write, write_cut) = ("write", "write with no allowance");
+    let (passes, lost_passes) = (&[Pass::Copy, Pass::Reads], &[Pass::LostReads, Pass::LostGathered]);
+    vec![
+        plain(open, Call::Open { lost: NO_CHIP }),
+        Row { passes, ..find("find, the first ticket stands", NO_CHIP, first, open) },
+        find("find, the last ticket stands", NO_CHIP, last, open),
+        find("find, there is none", NO_CHIP, none, open),
+        plain(open_lost, Call::Open { lost: LOST as u64 }),
+        Row { passes: lost_passes, ..find("find with a chip lost", LOST as u64, last, open_lost) },
+        Row { answer: CUT, ..plain(write_cut, Call::WriteCut { page }) },
+        Row { answer: CUT, ..walk("add with no allowance", Call::AddCut, write_cut) },
+        plain(write, Call::Write { page }),
+        walk("add", Call::Add, write),
+    ]
+}
+
 fn row(name: &'static str, setup: Setup, call: Call) -> Row {
     let scan = match call {
         Call::Format => Scan::Nothing,
-        Call::Read { lost, .. } | Call::Open { lost } if lost != NO_CHIP => Scan::Without(lost as usize),
+        Call::Read { lost, .. } | Call::Open { lost } | Call::Find { lost, .. } if lost != NO_CHIP => {
+            Scan::Without(lost as usize)
+        }
         _ => Scan::All,
     };
-    Row { name, setup, call, scan, answer: DONE, repeats: 1, beside: None }
+    Row {
+        name,
+        setup,
+        call,
+        scan,
+        answer: DONE,
+        standing: [0; 3],
+        repeats: 1,
+        beside: None,
+        without_walk: None,
+        passes: &[],
+    }
 }

@@ -61,7 +61,7 @@ impl Setup {
 }
 
 fn collect(trio: &mut Trio, chip: u64, allowance: u64) -> (Status, (Patch, Patch)) {
-    let (counts, back) = trio.by_all(Call::Collect { chip }, allowance);
+    let ((counts, _), back) = trio.by_all(Call::Collect { chip }, allowance);
     (counts, (back.now(trio.images()), back))
 }
 

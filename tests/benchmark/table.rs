@@ -3,9 +3,11 @@
 use crate::bench::Measured;
 use crate::clock::Caches;
 use crate::images::Order;
+use crate::log::Pass;
 use crate::owned::{THIRD_HEAD, THIRD_NAME};
-use crate::plans::Plan;
+use crate::plans::{Kind, Plan};
 use crate::reference::Geometry;
+use crate::rows::Row;
 use std::fmt;
 
 #[derive(Clone, Copy)]
@@ -40,44 +42,71 @@ pub struct Table {
     pub setting: Setting,
     /// Pages to a chip in each store.
     pub pages: Vec<u64>,
+    /// What is to grow as the times do.
+    pub sizes: Vec<u64>,
     pub lines: Vec<Line>,
+    /// Not of whole calls, but of the walks of the log in them.
+    pub walks: bool,
 }
 
 /// The library's time over another.
 pub struct Ratio {
     pub head: &'static str,
     pub of: &'static str,
-    /// How many times the other the library may take at most, if that is an aim.
-    pub aim: Option<f64>,
+    /// How many times the other the library may take at most, if that is an aim for the row.
+    pub aim: fn(&Table, &Row) -> Option<f64>,
     pub value: fn(&Table, &Measured, usize) -> Option<f64>,
 }
 
 const TO_REFERENCE: Ratio = Ratio {
     head: "/reference",
     of: "reference",
-    aim: Some(1.0),
+    aim: |table, _| (table.plan.kind != Kind::Refused).then_some(1.0),
     value: |_, measured, _| Some(measured.library / measured.reference),
 };
 
 const TO_THIRD: Ratio = Ratio {
     head: THIRD_HEAD,
     of: THIRD_NAME,
-    aim: None,
+    aim: |_, _| None,
     value: |_, measured, _| Some(measured.library / measured.third),
 };
 
 const TO_FLOOR: Ratio = Ratio {
     head: "/floor",
     of: "floor",
-    aim: Some(3.0),
+    aim: |table, _| (table.plan.kind != Kind::Tickets).then_some(3.0),
     value: |_, measured, _| Some(measured.library / measured.floor),
+};
+
+/// Of a walk over a plain copy of the log's pages.
+const TO_COPY: Ratio = Ratio {
+    head: "/copy",
+    of: "copy",
+    aim: |table, _| (table.setting.w >= 512).then_some(3.0),
+    value: |_, measured, _| Some(measured.library / measured.passes[0]?),
+};
+
+/// Of a walk over the reads that it counts, one by one.
+const TO_READS: Ratio = Ratio {
+    head: "/reads",
+    of: "reads",
+    aim: |_, row| row.passes.contains(&Pass::LostReads).then_some(2.0),
+    value: |_, measured, _| Some(measured.library / measured.passes[1]?),
+};
+
+const TO_GATHERED: Ratio = Ratio {
+    head: "/gathered",
+    of: "reads gathered",
+    aim: |_, _| None,
+    value: |_, measured, _| Some(measured.library / measured.passes[2]?),
 };
 
 /// Over that of another row on the same store.
 const TO_READ: Ratio = Ratio {
     head: "/read",
     of: "direct read",
-    aim: Some(3.0),
+    aim: |_, _| Some(3.0),
     value: |table, measured, store| {
         let beside = table.lines.iter().find(|line| Some(line.name) == measured.row.beside)?;
         Some(measured.library / beside.at[store].library)
@@ -93,21 +122,52 @@ impl Table {
     ) -> Table {
         let at = |i: usize| times.iter().map(|rows| rows[i]).collect();
         let lines = (0..times[0].len()).map(|i| Line { name: times[0][i].row.name, at: at(i) }).collect();
-        Table { plan, setting, pages: stores.iter().map(|store| store.b * store.k).collect(), lines }
+        let pages: Vec<u64> = stores.iter().map(|store| store.b * store.k).collect();
+        Table { plan, setting, sizes: pages.clone(), pages, lines, walks: false }
+    }
+
+    /// The walks of the log alone, if rows walk it: the time of each less that of the row without the walk.
+    pub fn walks(&self) -> Option<Table> {
+        let lines: Vec<Line> = self.lines.iter().filter_map(|line| self.walks_of(line)).collect();
+        let reads = |measured: &Measured| measured.counts.reads;
+        let sizes = lines.first()?.at.iter().map(reads).collect();
+        Some(Table { pages: self.pages.clone(), sizes, lines, walks: true, ..*self })
+    }
+
+    /// A row without passes of its own has those of the first that has some, which walks the same pages.
+    fn walks_of(&self, line: &Line) -> Option<Line> {
+        let named = line.at[0].row.without_walk?;
+        let without = self.lines.iter().find(|line| line.name == named)?;
+        let plain = self.lines.iter().find(|line| !line.at[0].row.passes.is_empty())?;
+        let passed = if line.at[0].row.passes.is_empty() { plain } else { line };
+        let walk = |(i, whole): (usize, &Measured)| {
+            let (less, passed) = (&without.at[i], &passed.at[i]);
+            Measured {
+                library: whole.library - less.library,
+                reference: whole.reference - less.reference,
+                third: whole.third - less.third,
+                floor: whole.floor - less.floor,
+                passes: passed.passes,
+                settled: whole.settled && less.settled && passed.settled,
+                ..*whole
+            }
+        };
+        Some(Line { name: line.name, at: line.at.iter().enumerate().map(walk).collect() })
     }
 
     pub fn title(&self) -> String {
-        if self.plan.all_settings {
-            self.setting.to_string()
-        } else {
-            format!("{}; {}", self.plan.about, self.setting)
+        match self.plan.kind {
+            Kind::Sizes => self.setting.to_string(),
+            _ if self.walks => format!("Walks of the log alone; {}", self.setting),
+            _ => format!("{}; {}", self.plan.about, self.setting),
         }
     }
 
     pub fn ratios(&self) -> Vec<Ratio> {
-        let mut ratios = match self.plan.refused {
-            true => vec![Ratio { aim: None, ..TO_REFERENCE }, TO_THIRD],
-            false => vec![TO_REFERENCE, TO_THIRD, TO_FLOOR],
+        let mut ratios = match self.plan.kind {
+            Kind::Refused => vec![TO_REFERENCE, TO_THIRD],
+            _ if self.walks => vec![TO_REFERENCE, TO_THIRD, TO_COPY, TO_READS, TO_GATHERED],
+            _ => vec![TO_REFERENCE, TO_THIRD, TO_FLOOR],
         };
         if self.measured().any(|measured| measured.row.beside.is_some()) {
             ratios.push(TO_READ);
@@ -128,8 +188,8 @@ impl Table {
     pub fn misses(&self) -> Option<String> {
         let mut all = Vec::new();
         for ratio in self.ratios() {
-            let Some(aim) = ratio.aim else { continue };
             for line in &self.lines {
+                let Some(aim) = (ratio.aim)(self, &line.at[0].row) else { continue };
                 let values = self.values(&ratio, line);
                 if values.iter().flatten().any(|&value| hundredths(value) > aim) {
                     let values: Vec<String> = values.into_iter().map(cell).collect();

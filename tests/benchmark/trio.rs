@@ -2,11 +2,11 @@
 //! the calls of all.
 
 use crate::library::{self, Buffer, Lent, LentImages};
-use crate::owned::{Calls, REFERENCE, THIRD};
+use crate::owned::{Answer, Calls, REFERENCE, THIRD};
 use crate::patch::Patch;
 use crate::placed;
 use crate::random::Random;
-use crate::reference::{Geometry, Images, Shape, Status, DONE, NONE, NO_CHIP};
+use crate::reference::{Geometry, Images, Shape, Ticket, DONE, NONE, NO_CHIP, TICKET_BYTES, WEIGHT};
 use std::hint::black_box;
 use std::process::exit;
 
@@ -24,6 +24,10 @@ pub enum Call {
     Write {
         page: u64,
     },
+    /// With no allowance.
+    WriteCut {
+        page: u64,
+    },
     Commit {
         stripe: u64,
     },
@@ -34,14 +38,25 @@ pub enum Call {
         lost: u64,
     },
     Format,
+    Add,
+    /// With no allowance.
+    AddCut,
+    Find {
+        lost: u64,
+        lot: u32,
+        bag: u16,
+    },
 }
+
+/// The ticket that is added.
+const TICKET: Ticket = Ticket { kind: WEIGHT, zero: 0, bag: 7, lot: 1_907, gross: 51_200, tare: 310 };
 
 /// How often a call is made on each copy of the images, with which allowance, and what it must answer.
 #[derive(Clone, Copy)]
 pub struct Times {
     pub repeats: usize,
     pub allowance: u64,
-    pub expected: Status,
+    pub expected: Answer,
 }
 
 /// Each image in as many copies as the calls are made on one after the other.
@@ -50,15 +65,21 @@ pub struct Trio {
     pub shape: Shape,
     owners: [Owner; 2],
     lent: Vec<LentImages>,
-    lent_data: Lent,
+    lent_given: Given<Lent>,
     lent_buffer: Lent,
 }
 
-/// An implementation that owns its images, the page that it writes and the one that it reads to.
+/// The page that is written, and the ticket that is added.
+struct Given<B> {
+    data: B,
+    ticket: B,
+}
+
+/// An implementation that owns its images, what it is given and the page that it reads to.
 struct Owner {
     calls: &'static Calls,
     images: Vec<Images>,
-    data: Vec<u8>,
+    given: Given<Vec<u8>>,
     buffer: Vec<u8>,
 }
 
@@ -72,12 +93,12 @@ pub enum By {
 impl Trio {
     pub fn new(geometry: Geometry, images: &Images, copies: usize, random: &mut Random) -> Trio {
         let shape = geometry.shape().expect("within the limits");
-        let data = random.bytes(shape.w);
+        let (data, ticket) = (random.bytes(shape.w), TICKET.to_bytes());
         let buffer = vec![1; shape.w];
         let owner = |calls| Owner {
             calls,
             images: (0..copies).map(|_| placed::owned(images)).collect(),
-            data: data.clone(),
+            given: Given { data: data.clone(), ticket: ticket.to_vec() },
             buffer: buffer.clone(),
         };
         Trio {
@@ -85,7 +106,7 @@ impl Trio {
             shape,
             owners: [owner(&REFERENCE), owner(&THIRD)],
             lent: (0..copies).map(|_| placed::lent_images(images)).collect(),
-            lent_data: placed::lent(&data),
+            lent_given: Given { data: placed::lent(&data), ticket: placed::lent(&ticket) },
             lent_buffer: placed::lent(&buffer),
         }
     }
@@ -95,26 +116,26 @@ impl Trio {
     }
 
     /// The answer that was not expected, if there is one.
-    pub fn by_library(&mut self, call: Call, times: Times) -> Option<Status> {
-        let Trio { geometry, lent, lent_data, lent_buffer, .. } = self;
+    pub fn by_library(&mut self, call: Call, times: Times) -> Option<Answer> {
+        let Trio { geometry, lent, lent_given, lent_buffer, .. } = self;
         let mut other = None;
         for lent in lent {
             for _ in 0..times.repeats {
-                let found = library_call(*geometry, lent, lent_data, lent_buffer, call, times.allowance);
+                let found = library_call(*geometry, lent, lent_given, lent_buffer, call, times.allowance);
                 other = other.or((found != times.expected).then_some(found));
             }
         }
         other
     }
 
-    pub fn by_owner(&mut self, by: By, call: Call, times: Times) -> Option<Status> {
-        let Owner { calls, images, data, buffer } = &mut self.owners[by as usize];
+    pub fn by_owner(&mut self, by: By, call: Call, times: Times) -> Option<Answer> {
+        let Owner { calls, images, given, buffer } = &mut self.owners[by as usize];
         let mut other = None;
         for images in images {
             let last = if matches!(call, Call::ReadShort) { images.slots.pop() } else { None };
             for _ in 0..times.repeats {
                 let images = black_box(&mut *images);
-                let found = owner_call(calls, self.geometry, images, data, buffer, call, times.allowance);
+                let found = owner_call(calls, self.geometry, images, given, buffer, call, times.allowance);
                 other = other.or((found != times.expected).then_some(found));
             }
             images.slots.extend(last);
@@ -124,10 +145,10 @@ impl Trio {
 
     /// Makes the call in all, which must agree in answer, counts and every byte, and tells how to take it
     /// back.
-    pub fn by_all(&mut self, call: Call, allowance: u64) -> (Status, Patch) {
+    pub fn by_all(&mut self, call: Call, allowance: u64) -> (Answer, Patch) {
         self.lent_buffer.content_mut().fill(1);
         self.owners.iter_mut().for_each(|owner| owner.buffer.fill(1));
-        let mut times = Times { repeats: 1, allowance, expected: Status::default() };
+        let mut times = Times { repeats: 1, allowance, expected: Answer::default() };
         times.expected = self.by_owner(By::Reference, call, times).unwrap_or_default();
         let back = Patch::back(self.shape, &self.lent[0], self.images());
         let found = [self.by_library(call, times), self.by_owner(By::Third, call, times)];
@@ -164,7 +185,7 @@ impl Trio {
     }
 
     /// What was read is the page as it stands on its chip; any other call leaves the buffer alone.
-    fn check_buffers(&self, call: Call, answer: Status) {
+    fn check_buffers(&self, call: Call, (answer, _): Answer) {
         let (shape, view) = (self.shape, self.images().view(self.shape));
         let expected = match call {
             Call::Read { page, .. } if answer.status == DONE => {
@@ -204,12 +225,12 @@ fn beyond(g: Geometry) -> Geometry {
 fn library_call(
     g: Geometry,
     lent: &mut LentImages,
-    data: &mut Lent,
+    given: &mut Given<Lent>,
     buffer: &mut Lent,
     call: Call,
     allowance: u64,
-) -> Status {
-    match call {
+) -> Answer {
+    let status = match call {
         Call::Read { lost, page } => library::read(g, lent, lost, page, buffer),
         Call::ReadBeyond => library::read(beyond(g), lent, NO_CHIP, 0, buffer),
         Call::ReadShort => {
@@ -217,33 +238,44 @@ fn library_call(
             let (chips, records, slots) = (Cropped(chips, 0), Cropped(records, 0), Cropped(slots, 1));
             library::read(g, &mut LentImages { chips, records, slots }, NO_CHIP, 0, &mut Cropped(buffer, 0))
         }
-        Call::Write { page } => library::write(g, lent, NO_CHIP, page, data, allowance),
+        Call::Write { page } => library::write(g, lent, NO_CHIP, page, &mut given.data, allowance),
+        Call::WriteCut { page } => library::write(g, lent, NO_CHIP, page, &mut given.data, 0),
         Call::Commit { stripe } => library::commit(g, lent, NO_CHIP, stripe, allowance),
         Call::Collect { chip } => library::collect(g, lent, NO_CHIP, chip, allowance),
         Call::Open { lost } => library::open(g, lent, lost, allowance),
         Call::Format => library::format(g, lent, allowance),
-    }
+        Call::Add => library::add(g, lent, NO_CHIP, &mut given.ticket, allowance),
+        Call::AddCut => library::add(g, lent, NO_CHIP, &mut given.ticket, 0),
+        Call::Find { lost, lot, bag } => return library::find(g, lent, lost, lot, bag),
+    };
+    (status, [0; 3])
 }
 
 fn owner_call(
     by: &Calls,
     g: Geometry,
     images: &mut Images,
-    data: &[u8],
+    given: &Given<Vec<u8>>,
     buffer: &mut [u8],
     call: Call,
     allowance: u64,
-) -> Status {
-    match call {
+) -> Answer {
+    let tickets = || by.tickets.as_ref().expect("calls of the log");
+    let status = match call {
         Call::Read { lost, page } => (by.read)(g, images, lost, page, buffer),
         Call::ReadBeyond => (by.read)(beyond(g), images, NO_CHIP, 0, buffer),
         Call::ReadShort => (by.read)(g, images, NO_CHIP, 0, buffer),
-        Call::Write { page } => (by.write)(g, images, NO_CHIP, page, data, allowance),
+        Call::Write { page } => (by.write)(g, images, NO_CHIP, page, &given.data, allowance),
+        Call::WriteCut { page } => (by.write)(g, images, NO_CHIP, page, &given.data, 0),
         Call::Commit { stripe } => (by.commit)(g, images, NO_CHIP, stripe, allowance),
         Call::Collect { chip } => (by.collect)(g, images, NO_CHIP, chip, allowance),
         Call::Open { lost } => (by.open)(g, images, lost, allowance),
         Call::Format => (by.format)(g, images, allowance),
-    }
+        Call::Add => (tickets().add)(g, images, NO_CHIP, &given.ticket, allowance),
+        Call::AddCut => (tickets().add)(g, images, NO_CHIP, &given.ticket, 0),
+        Call::Find { lost, lot, bag } => return (tickets().find)(g, images, lost, lot, bag),
+    };
+    (status, [0; 3])
 }
 
 /// A lent image without so many bytes at its end.

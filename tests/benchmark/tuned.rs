@@ -3,14 +3,18 @@
 
 mod check;
 pub mod direct;
+mod log;
 mod records;
 mod run;
 mod spares;
 
+use crate::owned::{Answer, Tickets};
 use crate::reference::{
     Geometry, Images, Refusal, Shape, Status, CUT, DONE, EMPTY_RECORD, MEMBERS, NONE, NO_SLOT, RECORD_BYTES,
+    TICKET_BYTES,
 };
 use check::{Found, Look};
+use log::{Log, Wanted, MOST_PAGE};
 use run::carry_out;
 use std::mem::MaybeUninit;
 
@@ -202,5 +206,44 @@ pub fn collect(geometry: Geometry, images: &mut Images, lost: u64, chip: u64, al
     match run::victim(Look { shape, images }, found, chip) {
         None => refused(Refusal::Work),
         Some(victim) => carry_out(shape, images, found, allowance, |run| run.collect(chip, victim)),
+    }
+}
+
+pub const TICKETS: Option<Tickets> = Some(Tickets { add, find });
+
+fn add(geometry: Geometry, images: &mut Images, lost: u64, ticket: &[u8], allowance: u64) -> Status {
+    let mut place = MaybeUninit::uninit();
+    let found = Found::begin(&mut place);
+    let request = |_| (ticket.len() == TICKET_BYTES).then_some(()).ok_or(Refusal::Data);
+    let (shape, Log { reads, end, .. }) = match idle(geometry, images, lost, found, request) {
+        Err(refusal) => return refused(refusal),
+        Ok(_) if !log::is_sound(ticket.try_into().expect("16 bytes")) => return refused(Refusal::Ticket),
+        Ok(shape) => match log::walk(Look { shape, images }, None, Wanted { lot: 0, bag: 0 }) {
+            Err(refusal) => return refused(refusal),
+            Ok(log) => (shape, log),
+        },
+    };
+    let Some((page, at)) = end else { return refused(Refusal::LogFull) };
+    let (stripe, member) = (page / shape.n, page % shape.n);
+    let mut buffer = [0; MOST_PAGE];
+    let data = &mut buffer[..shape.w];
+    let look = Look { shape, images };
+    match number(look.record(stripe), 2 * member) {
+        NONE => {}
+        current => data.copy_from_slice(look.data(shape.member_chip(stripe, member), current)),
+    }
+    data[at..at + TICKET_BYTES].copy_from_slice(ticket);
+    let status = carry_out(shape, images, found, allowance, |run| run.write(stripe, member, data));
+    Status { reads: status.reads + reads, ..status }
+}
+
+fn find(geometry: Geometry, images: &Images, lost: u64, lot: u32, bag: u16) -> Answer {
+    let mut place = MaybeUninit::uninit();
+    let found = Found::begin(&mut place);
+    let log = check::images(geometry, images, lost, found)
+        .and_then(|(shape, lost)| log::walk(Look { shape, images }, lost, Wanted { lot, bag }));
+    match log {
+        Err(refusal) => (refused(refusal), [0; 3]),
+        Ok(log) => (Status { reads: log.reads, ..Status::default() }, log.weight()),
     }
 }

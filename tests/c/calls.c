@@ -1,7 +1,8 @@
 /*
- * The six calls from C, by what the header says: pages are written and read back, after a cut, with a chip lost, after a commit
- * and after a collection; a damaged store is refused with nothing changed. All buffers are on the heap and of their exact
- * lengths, so that a tool that watches it sees every byte beyond; the store is formatted in memory that nobody has written.
+ * The eight calls from C, by what the header says: pages are written and read back, tickets are added and found, after a cut,
+ * with a chip lost, after a commit and after a collection; a damaged store is refused with nothing changed. All buffers are on
+ * the heap and of their exact lengths, so that a tool that watches it sees every byte beyond; the store is formatted in memory
+ * that nobody has written.
  */
 #include "vazhettu.h"
 
@@ -10,7 +11,7 @@
 #include <string.h>
 
 #define N 4
-#define W 16
+#define W 32
 #define K 4
 #define B 4
 #define S 6
@@ -94,7 +95,7 @@ static struct vazhettu_report read_page(uint64_t lost, uint64_t number) {
     return vazhettu_read(g, STORE, lost, number, page, W);
 }
 
-/* The page reads as sixteen bytes of one value, with so many pages read for it. */
+/* The page reads as bytes of one value, with so many pages read for it. */
 static int reads_as(uint64_t lost, uint64_t number, uint8_t fill, uint64_t reads) {
     uint8_t expected[W];
     memset(expected, fill, W);
@@ -102,18 +103,67 @@ static int reads_as(uint64_t lost, uint64_t number, uint8_t fill, uint64_t reads
     return answers(read_page(lost, number), VAZHETTU_DONE, reads, 0, 0, 0) && !memcmp(page, expected, W);
 }
 
-/* The same with the bytes of that chip gone, which are put back. */
+/* Takes the bytes of a chip away, and puts them back. */
+static uint8_t own[CHIP];
+
+static void take_chip(uint64_t chip) {
+    memcpy(own, store.chips + chip * CHIP, CHIP);
+    memset(store.chips + chip * CHIP, 0x5a, CHIP);
+}
+
+static void put_back(uint64_t chip) {
+    memcpy(store.chips + chip * CHIP, own, CHIP);
+}
+
+/* The page reads so with the bytes of that chip gone. */
 static int reads_without(uint64_t chip, uint64_t number, uint8_t fill, uint64_t reads) {
-    uint8_t own[CHIP], *stretch = store.chips + chip * CHIP;
-    memcpy(own, stretch, CHIP);
-    memset(stretch, 0x5a, CHIP);
+    take_chip(chip);
     int as_written = reads_as(chip, number, fill, reads);
-    memcpy(stretch, own, CHIP);
+    put_back(chip);
     return as_written;
 }
 
+static struct vazhettu_report add_bytes(uint64_t lost, const uint8_t *from, size_t length, uint64_t allowance) {
+    uint8_t *ticket = bytes(length);
+    memcpy(ticket, from, length);
+    struct vazhettu_report r = vazhettu_add(g, STORE, lost, ticket, length, allowance);
+    free(ticket);
+    return r;
+}
+
+static struct vazhettu_report add(uint8_t kind, uint16_t bag, uint32_t lot, uint32_t gross, uint32_t tare, uint64_t allowance) {
+    uint8_t ticket[16];
+    vazhettu_ticket(ticket, kind, lot, bag, gross, tare);
+    return add_bytes(NONE, ticket, 16, allowance);
+}
+
+/* A weight of a bag of lot 7. */
+static struct vazhettu_report weigh(uint16_t bag, uint32_t gross, uint32_t tare, uint64_t allowance) {
+    return add(VAZHETTU_WEIGHT, bag, 7, gross, tare, allowance);
+}
+
+static int finds(struct vazhettu_find_report r, uint64_t status, uint64_t reads, uint64_t standing, uint64_t gross,
+                 uint64_t tare) {
+    return r.status == status && r.reads == reads && r.programs == 0 && r.erases == 0 && r.stores == 0 &&
+           r.standing == standing && r.gross == gross && r.tare == tare;
+}
+
+/* For the bag of lot 7 this weight stands, found with so many pages read. */
+static int stands(uint64_t lost, uint16_t bag, uint32_t gross, uint32_t tare, uint64_t reads) {
+    return finds(vazhettu_find(g, STORE, lost, 7, bag), VAZHETTU_DONE, reads, 1, gross, tare);
+}
+
+static int none_stands(uint64_t lost, uint16_t bag, uint64_t reads) {
+    return finds(vazhettu_find(g, STORE, lost, 7, bag), VAZHETTU_DONE, reads, 0, 0, 0);
+}
+
+/* A find is refused with this number, and nothing else. */
+static int find_refused(uint64_t lost, uint64_t status) {
+    return finds(vazhettu_find(g, STORE, lost, 7, 1), status, 0, 0, 0, 0);
+}
+
 static void test_lengths(void) {
-    expect(CHIP == 16 * 24 && CHIPS == 5 * 16 * 24 && RECORDS == 7 * 32 && SLOTS == 3 * 16, "the lengths");
+    expect(CHIP == 16 * 40 && CHIPS == 5 * 16 * 40 && RECORDS == 7 * 32 && SLOTS == 3 * 32, "the lengths");
     expect(VAZHETTU_CHIPS_LEN(g.n, g.w, g.k, g.b) == CHIPS, "the same of a geometry at hand");
     expect(VAZHETTU_CHIPS_LEN(6, 4096, 85, 771) == 1882689480, "the longest there is");
 }
@@ -140,7 +190,7 @@ static void test_write(void) {
     expect(answers(write_page(NONE, 1, 0x77, 2), VAZHETTU_CUT, 1, 1, 0, 2), "a third is cut");
     expect(reads_as(NONE, 1, 0x11, 1) && reads_as(NONE, 2, 0x0f, 1), "what is written reads back");
     expect(refused(write_page(NONE, 24, 1, 9), VAZHETTU_BAD_REQUEST), "no page 24 to write");
-    expect(refused(vazhettu_write(g, STORE, NONE, 1, page, 15, 9), VAZHETTU_BAD_DATA), "a page has 16 bytes");
+    expect(refused(vazhettu_write(g, STORE, NONE, 1, page, W - 1, 9), VAZHETTU_BAD_DATA), "a page has w bytes");
 }
 
 static void test_lost_chip(void) {
@@ -196,10 +246,10 @@ static void test_room(void) {
 }
 
 static void test_damage(void) {
-    store.chips[W + 24 * 12] = 68;
+    store.chips[W + (W + 8) * 12] = 68;
     expect(read_page(NONE, 0).status == VAZHETTU_DONE, "a used page that no record names is sound");
-    store.chips[W + 24 * 12] = 255;
-    store.chips[W + 24 * 13] = 68;
+    store.chips[W + (W + 8) * 12] = 255;
+    store.chips[W + (W + 8) * 13] = 68;
     memset(store.slots + 2 * W, 0x2b, W); /* nobody has written it so far, and it is compared below */
     copy_store(&saved, &store);
     expect(refused(write_page(NONE, 0, 9, 9), VAZHETTU_BAD_SPARES), "a used page behind a clean one");
@@ -212,11 +262,159 @@ static void test_damage(void) {
     other.k = UINT64_MAX;
     expect(refused(vazhettu_collect(other, STORE, NONE, 0, 9), VAZHETTU_BAD_GEOMETRY), "any number may be given");
     other = g;
-    other.w = 32;
+    other.w = 48;
     expect(refused(vazhettu_commit(other, STORE, NONE, 0, 9), VAZHETTU_BAD_BUFFERS), "and any length");
     expect(same_store(), "a refused call changes nothing");
     expect(vazhettu_format(g, STORE, ALL).status == VAZHETTU_DONE, "a format takes whatever there is");
     expect(!memcmp(store.slots, saved.slots, SLOTS), "slots stay");
+}
+
+static void test_ticket(void) {
+    const uint8_t expected[16] = {1, 0, 1, 2, 3, 4, 5, 6, 7, 8, 9, 0xfa, 0xfb, 0xfc, 0xfd, 0xfe};
+    uint8_t ticket[16];
+    memset(ticket, 0x5a, 16);
+    vazhettu_ticket(ticket, VAZHETTU_WEIGHT, 0x06050403, 0x0201, 0xfa090807, 0xfefdfcfb);
+    expect(!memcmp(ticket, expected, 16), "the bytes of a ticket");
+}
+
+/* The store is as a format leaves it. A page has two tickets; pages 0 and 1 stand on chips 0 and 1. */
+static void test_add(void) {
+    uint8_t tickets[2 * W] = {0};
+    expect(none_stands(NONE, 1, 0), "the log of a new store is empty");
+    expect(answers(weigh(1, 60140, 140, 2), VAZHETTU_CUT, 0, 1, 0, 2), "an addition is cut");
+    expect(none_stands(NONE, 1, 0), "and is not in the log");
+    expect(answers(weigh(1, 60140, 140, 3), VAZHETTU_DONE, 0, 1, 0, 3), "an addition is done");
+    expect(stands(NONE, 1, 60140, 140, 1), "and is in the log");
+    expect(answers(weigh(2, 59870, 140, ALL), VAZHETTU_DONE, 2, 1, 0, 3), "one more to page 0 reads it for log and write");
+    expect(answers(weigh(3, 1, 0, 0), VAZHETTU_CUT, 1, 0, 0, 0), "cut before all stores it has the reads of the log");
+    expect(none_stands(NONE, 3, 1), "page 1 was never written");
+    expect(answers(add(VAZHETTU_WEIGHT, UINT16_MAX, UINT32_MAX, UINT32_MAX, UINT32_MAX, ALL), VAZHETTU_DONE, 1, 1, 0, 3),
+           "every number may be the largest");
+    vazhettu_ticket(tickets, VAZHETTU_WEIGHT, 7, 1, 60140, 140);
+    vazhettu_ticket(tickets + 16, VAZHETTU_WEIGHT, 7, 2, 59870, 140);
+    vazhettu_ticket(tickets + 32, VAZHETTU_WEIGHT, UINT32_MAX, UINT16_MAX, UINT32_MAX, UINT32_MAX);
+    expect(read_page(NONE, 0).status == VAZHETTU_DONE && !memcmp(page, tickets, W), "page 0 has two tickets");
+    expect(read_page(NONE, 1).status == VAZHETTU_DONE && !memcmp(page, tickets + W, W), "page 1 has one");
+}
+
+static void test_find(void) {
+    expect(finds(vazhettu_find(g, STORE, NONE, UINT32_MAX, UINT16_MAX), VAZHETTU_DONE, 2, 1, UINT32_MAX, UINT32_MAX),
+           "the largest numbers");
+    expect(finds(vazhettu_find(g, STORE, NONE, 1, 7), VAZHETTU_DONE, 2, 0, 0, 0), "bag 7 of lot 1 is not bag 1 of lot 7");
+    expect(answers(add(VAZHETTU_WITHDRAWAL, 2, 7, 0, 0, ALL), VAZHETTU_DONE, 3, 1, 0, 3), "a withdrawal");
+    expect(none_stands(NONE, 2, 2) && stands(NONE, 1, 60140, 140, 2), "leaves nothing of bag 2, and bag 1 as it was");
+    expect(answers(weigh(1, 60090, 140, ALL), VAZHETTU_DONE, 2, 1, 0, 3), "a bag is weighed again");
+    expect(answers(weigh(2, 0, 0, ALL), VAZHETTU_DONE, 4, 1, 0, 3), "and one that was withdrawn");
+    for (uint64_t chip = 0; chip <= N; chip++) {
+        uint64_t reads = chip < 3 ? 4 : 3;
+        take_chip(chip);
+        expect(stands(chip, 1, 60090, 140, reads) && stands(chip, 2, 0, 0, reads), "the latest stands, whichever chip is lost");
+        expect(none_stands(chip, 3, reads), "and of bag 3 there is none");
+        put_back(chip);
+    }
+}
+
+/* The log has six tickets. The next falls in page 3, on chip 3. */
+static void test_log_and_collection(void) {
+    for (int i = 0; i < K; i++)
+        expect(answers(weigh(3, 50000, 100, 1), VAZHETTU_CUT, 3, 1, 0, 1), "an addition that is cut uses up a page");
+    expect(answers(vazhettu_collect(g, STORE, NONE, 3, 1), VAZHETTU_CUT, 0, 0, 0, 1), "their block is being collected");
+    expect(refused(weigh(3, 50000, 100, ALL), VAZHETTU_COLLECTION_UNDER_WAY), "no ticket is added meanwhile");
+    expect(stands(NONE, 1, 60090, 140, 3) && stands(0, 1, 60090, 140, 4), "but tickets are found");
+    expect(vazhettu_open(g, STORE, NONE, ALL).status == VAZHETTU_DONE, "an open finishes it");
+    expect(answers(weigh(3, 50000, 100, ALL), VAZHETTU_DONE, 3, 1, 0, 3), "and then they are added");
+}
+
+/* Writes a page of two tickets, of which the first has kind 0. */
+static void write_behind(uint64_t number, uint8_t rest, uint8_t kind, uint16_t bag) {
+    memset(page, rest, W);
+    page[0] = 0;
+    vazhettu_ticket(page + 16, kind, 7, bag, 0, 0);
+    expect(vazhettu_write(g, STORE, NONE, number, page, W, ALL).status == VAZHETTU_DONE, "a page may hold anything");
+}
+
+/* The log has seven tickets; the end is in page 3. */
+static void test_behind_the_end(void) {
+    write_behind(4, 0, 3, 6);
+    write_behind(5, 0xff, VAZHETTU_WEIGHT, 6);
+    weigh(4, 40000, 0, ALL);
+    expect(stands(NONE, 4, 40000, 0, 5), "the log ends before a ticket that breaks the rules");
+    expect(weigh(5, 40100, 0, ALL).status == VAZHETTU_DONE, "and takes one more");
+    expect(find_refused(NONE, VAZHETTU_TICKETS) && find_refused(0, VAZHETTU_TICKETS), "then that one is found");
+    expect(refused(weigh(7, 40200, 0, ALL), VAZHETTU_TICKETS), "also where one more is added");
+    expect(refused(add(VAZHETTU_WEIGHT, 7, 7, 1, 2, ALL), VAZHETTU_TICKETS), "be it right or not");
+    expect(read_page(NONE, 4).status == VAZHETTU_DONE, "reads and writes do not ask for the rules");
+    memset(page + 16, 0, 16);
+    expect(vazhettu_write(g, STORE, NONE, 4, page, W, ALL).status == VAZHETTU_DONE, "and a write mends the page");
+    expect(stands(NONE, 5, 40100, 0, 5) && none_stands(NONE, 6, 5), "the log ends there again");
+    weigh(7, 40200, 0, ALL);
+    expect(none_stands(NONE, 6, 6), "a ticket behind the end does not stand");
+    weigh(8, 40300, 0, ALL);
+    expect(stands(NONE, 6, 0, 0, 6) && stands(NONE, 8, 40300, 0, 6), "until the log has come to it");
+}
+
+/* Given, the ticket is refused with this number. */
+static int add_refused(uint64_t lost, const uint8_t *ticket, size_t length, uint64_t status) {
+    return refused(add_bytes(lost, ticket, length, ALL), status);
+}
+
+static void test_tickets_refused(void) {
+    const uint8_t weight[17] = {1, 0, 1, 0, 7, 0, 0, 0, 2, 0, 0, 0, 2}, empty[16] = {0};
+    copy_store(&saved, &store);
+    expect(add_refused(NONE, weight, 15, VAZHETTU_BAD_DATA), "a ticket has 16 bytes");
+    expect(add_refused(NONE, weight, 17, VAZHETTU_BAD_DATA), "and no more");
+    expect(add_refused(NONE, weight, 0, VAZHETTU_BAD_DATA), "nor none");
+    expect(add_refused(0, weight, 15, VAZHETTU_BAD_DATA), "which is asked first");
+    expect(add_refused(0, weight, 16, VAZHETTU_CHIP_LOST), "no addition with a chip lost");
+    expect(add_refused(0, empty, 16, VAZHETTU_CHIP_LOST), "whatever the ticket");
+    expect(add_refused(5, weight, 16, VAZHETTU_BAD_LOST_CHIP) && find_refused(5, VAZHETTU_BAD_LOST_CHIP), "no chip 5");
+    expect(add_refused(NONE, empty, 16, VAZHETTU_TICKETS), "an empty ticket cannot be added");
+    expect(refused(add(3, 1, 7, 2, 2, ALL), VAZHETTU_TICKETS), "there is no kind 3");
+    expect(refused(weigh(1, 2, 3, ALL), VAZHETTU_TICKETS), "tare is never above gross");
+    expect(refused(weigh(1, 255, 256, ALL), VAZHETTU_TICKETS), "in all its bytes");
+    expect(refused(add(VAZHETTU_WITHDRAWAL, 1, 7, 1, 0, ALL), VAZHETTU_TICKETS), "a withdrawal has no gross");
+    expect(refused(add(VAZHETTU_WITHDRAWAL, 1, 7, 1, 1, ALL), VAZHETTU_TICKETS), "nor a tare");
+    for (int i = 0; i < 2; i++) {
+        uint8_t other[16];
+        memcpy(other, weight, 16);
+        other[i] = 4;
+        expect(add_refused(NONE, other, 16, VAZHETTU_TICKETS), "the first two bytes are what they must be");
+    }
+    expect(same_store(), "a refused addition changes nothing");
+    struct vazhettu_geometry other = g;
+    other.n = 7;
+    expect(refused(vazhettu_add(other, STORE, NONE, weight, 16, ALL), VAZHETTU_BAD_GEOMETRY) &&
+               finds(vazhettu_find(other, STORE, NONE, 7, 1), VAZHETTU_BAD_GEOMETRY, 0, 0, 0, 0),
+           "a geometry outside the limits");
+    other.n = 3;
+    expect(refused(vazhettu_add(other, STORE, NONE, weight, 16, ALL), VAZHETTU_BAD_BUFFERS) &&
+               finds(vazhettu_find(other, STORE, NONE, 7, 1), VAZHETTU_BAD_BUFFERS, 0, 0, 0, 0),
+           "one that is not the buffers'");
+    take_chip(1);
+    expect(add_refused(NONE, weight, 16, VAZHETTU_BAD_SPARES) && find_refused(NONE, VAZHETTU_BAD_SPARES), "a chip not named");
+    put_back(1);
+    store.records[31] = 1;
+    expect(add_refused(NONE, weight, 16, VAZHETTU_BAD_RECORDS) && find_refused(NONE, VAZHETTU_BAD_RECORDS), "a bad record");
+    store.records[31] = 0;
+}
+
+/* Pages 0 to 5 are full of tickets. */
+static void test_full_log(void) {
+    for (int i = 12; i < N * S * 2; i++)
+        expect(weigh((uint16_t)(i % 3), (uint32_t)i, 0, 4 * K + 13).status == VAZHETTU_DONE, "there is a place");
+    copy_store(&saved, &store);
+    expect(refused(weigh(1, 1, 0, ALL), VAZHETTU_FULL_LOG), "a log that fills every page is full");
+    expect(refused(weigh(1, 0, 1, ALL), VAZHETTU_TICKETS), "which is asked last");
+    expect(same_store(), "a full log stays as it is");
+    expect(stands(NONE, 0, 45, 0, 24) && stands(NONE, 2, 47, 0, 24), "all its pages are read, to the last place");
+    for (uint64_t chip = 0; chip <= N; chip++) {
+        take_chip(chip);
+        expect(vazhettu_find(g, STORE, chip, 7, 1).gross == 46, "also without one of the chips");
+        put_back(chip);
+    }
+    memset(page, 0x5a, W);
+    vazhettu_write(g, STORE, NONE, 23, page, W, ALL);
+    expect(refused(weigh(1, 1, 0, ALL), VAZHETTU_TICKETS), "a ticket that breaks the rules is found before that");
 }
 
 int main(void) {
@@ -231,6 +429,13 @@ int main(void) {
     test_collect();
     test_room();
     test_damage();
+    test_ticket();
+    test_add();
+    test_find();
+    test_log_and_collection();
+    test_behind_the_end();
+    test_tickets_refused();
+    test_full_log();
     free(page);
     free_store(&saved);
     free_store(&store);

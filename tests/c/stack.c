@@ -12,21 +12,23 @@
 #include <ucontext.h>
 
 enum { STACK = 16384, GUARD_PAGE = 4096, UNTOUCHED = 0xa5, W = 4096, ROUNDS = 4000 };
-enum call { FORMAT, OPEN, READ, WRITE, COMMIT, COLLECT, CALLS };
+enum call { FORMAT, OPEN, READ, WRITE, COMMIT, COLLECT, ADD, FIND, CALLS };
 
-static const char *const names[CALLS] = {"format", "open", "read", "write", "commit", "collect"};
+static const char *const names[CALLS] = {"format", "open", "read", "write", "commit", "collect", "add", "find"};
 
 static struct vazhettu_geometry g;
 static uint8_t *chips, *records, *slots, page[W], *stack;
 static size_t chips_len, records_len, slots_len, most[CALLS];
+static int done[CALLS];
 static ucontext_t here, there;
 
 #define STORE g, chips, chips_len, records, records_len, slots, slots_len
 
-/* The call under way, its chip, page or stripe, and its answer. */
+/* The call under way, its chip, page, stripe or bag, and its answer. */
 static enum call call;
 static uint64_t lost, number, allowance;
 static struct vazhettu_report report;
+static struct vazhettu_find_report found;
 
 static void make_call(void) {
     switch (call) {
@@ -45,9 +47,18 @@ static void make_call(void) {
     case COMMIT:
         report = vazhettu_commit(STORE, lost, number, allowance);
         break;
-    default:
+    case COLLECT:
         report = vazhettu_collect(STORE, lost, number, allowance);
+        break;
+    default:
+        report = vazhettu_add(STORE, lost, page, 16, allowance);
     }
+}
+
+/* By itself: its longer answer would add to the stack of every call. */
+static void make_find(void) {
+    found = vazhettu_find(STORE, lost, 7, (uint16_t)number);
+    report.status = found.status;
 }
 
 static void on_own_stack(enum call kind, uint64_t chip, uint64_t request, uint64_t stores) {
@@ -59,19 +70,29 @@ static void on_own_stack(enum call kind, uint64_t chip, uint64_t request, uint64
     there.uc_stack.ss_sp = stack;
     there.uc_stack.ss_size = STACK;
     there.uc_link = &here;
-    makecontext(&there, make_call, 0);
+    makecontext(&there, kind == FIND ? make_find : make_call, 0);
     swapcontext(&here, &there);
     while (untouched < STACK && stack[untouched] == UNTOUCHED)
         untouched++;
     if (STACK - untouched > most[kind])
         most[kind] = STACK - untouched;
+    done[kind] += report.status == VAZHETTU_DONE;
 }
 
 static uint64_t below(uint64_t bound) {
     return (uint64_t)rand() % bound;
 }
 
-/* Writes mostly, so that the chips fill up and writes commit and collect; some calls are cut. */
+/* Fills the page with tickets. */
+static void fill_page(uint8_t kind, uint32_t gross) {
+    for (size_t i = 0; i < W; i += 16)
+        vazhettu_ticket(page + i, kind, 7, (uint16_t)i, gross, 0);
+}
+
+/*
+ * Writes mostly, so that the chips fill up and writes commit and collect; some calls are cut. A page is full of tickets or
+ * empty, so that the log has some pages.
+ */
 static void use_store(void) {
     chips_len = VAZHETTU_CHIPS_LEN(g.n, g.w, g.k, g.b);
     records_len = VAZHETTU_RECORDS_LEN(g.s);
@@ -82,10 +103,14 @@ static void use_store(void) {
     on_own_stack(FORMAT, VAZHETTU_NO_CHIP, 0, VAZHETTU_NO_LIMIT);
     for (int round = 0; round < ROUNDS; round++) {
         uint64_t stores = below(8) ? VAZHETTU_NO_LIMIT : below(12);
-        memset(page, round, W);
+        fill_page(below(8) ? VAZHETTU_WEIGHT : 0, (uint32_t)round);
         on_own_stack(WRITE, VAZHETTU_NO_CHIP, below(g.n * g.s), stores);
         on_own_stack(OPEN, VAZHETTU_NO_CHIP, 0, stores);
         on_own_stack(READ, below(g.n + 1), below(g.n * g.s), 0);
+        fill_page(VAZHETTU_WEIGHT, (uint32_t)round);
+        on_own_stack(ADD, VAZHETTU_NO_CHIP, 0, stores);
+        on_own_stack(OPEN, VAZHETTU_NO_CHIP, 0, stores);
+        on_own_stack(FIND, below(g.n + 1), below(W), 0);
         if (round % 8 == 0)
             on_own_stack(COMMIT, VAZHETTU_NO_CHIP, below(g.s), VAZHETTU_NO_LIMIT);
         if (round % 8 == 4)
@@ -111,5 +136,8 @@ int main(void) {
     for (int kind = 0; kind < CALLS; kind++)
         printf(" %s %zu", names[kind], most[kind]);
     printf("\n");
+    for (int kind = 0; kind < CALLS; kind++)
+        if (!done[kind])
+            return 1;
     return 0;
 }

@@ -1,10 +1,11 @@
 //! A store beside its price book, which knows no chips.
 
-use crate::calls::{Call, Comparison};
+use crate::calls::{Answer, Call, Comparison};
 use crate::generator::ALL;
 use crate::images::{fill_chip, FILLINGS};
 use crate::random::Random;
 use crate::reference::*;
+use crate::tickets::{broken, Log};
 
 /// How many pages of a large book are held against the store at once.
 const FEW: usize = 6;
@@ -16,7 +17,7 @@ pub struct Store {
     pub g: Geometry,
     pub shape: Shape,
     pub images: Images,
-    /// For each logical page the data of the last write that was done.
+    /// For each logical page what the writes and additions that were done have put there.
     pub book: Vec<Vec<u8>>,
 }
 
@@ -45,11 +46,59 @@ impl Store {
 
     /// The call on the store's own images; the book is fed its arguments and its answer.
     pub fn call(&mut self, to: &mut Comparison, random: &mut Random, call: &Call) -> Status {
-        let status = to.call(random, self.g, &mut self.images, call);
-        if let (DONE, Call::Write { page, data, .. }) = (status.status, call) {
-            self.book[*page as usize].clone_from(data);
+        let answer = to.answer(random, self.g, &mut self.images, call);
+        self.hold_answer(to, call, answer);
+        if answer.status.status == DONE {
+            self.enter(call);
         }
-        status
+        answer.status
+    }
+
+    /// A call that is done. "A later call that writes a page puts there, once done, what its request says, worked out
+    /// from the book."
+    fn enter(&mut self, call: &Call) {
+        match call {
+            Call::Write { page, data, .. } => self.book[*page as usize].clone_from(data),
+            Call::Add { ticket, .. } => {
+                let (page, at) = self.log_end();
+                self.book[page][at..at + TICKET_BYTES].copy_from_slice(ticket);
+            }
+            _ => {}
+        }
+    }
+
+    pub fn log(&self) -> Log {
+        Log::of(&self.book)
+    }
+
+    /// The page in which the book's log ends, and the place there.
+    pub fn log_end(&self) -> (usize, usize) {
+        let end = self.log().bytes.len();
+        (end / self.shape.w, end % self.shape.w)
+    }
+
+    /// Holds what an addition or a question is answered against the book's log, if it was not turned back before that.
+    fn hold_answer(&self, to: &Comparison, call: &Call, answer: Answer) {
+        let status = answer.status.status;
+        let as_booked = match call {
+            _ if (1..=10).contains(&status) => true,
+            Call::Add { ticket, .. } => self.adds(ticket).contains(&status),
+            Call::Find { lot, bag, .. } => finds(&self.log(), *lot, *bag) == (status, answer.found),
+            _ => true,
+        };
+        if !as_booked {
+            to.fail(self.g, &format!("{}: answered {answer:?}, but not by the book's log", call.name()));
+        }
+    }
+
+    /// What an addition may be answered.
+    fn adds(&self, ticket: &[u8]) -> &'static [u64] {
+        let log = self.log();
+        match (broken(ticket).is_empty() && log.first_bad().is_none(), log.is_full()) {
+            (false, _) => &[11],
+            (true, true) => &[12],
+            (true, false) => &[DONE, CUT],
+        }
     }
 
     pub fn view(&self) -> View<'_> {
@@ -72,7 +121,8 @@ impl Store {
         (0..FEW).map(|_| random.below(self.book.len())).collect()
     }
 
-    /// Holds the pages that the images give against the book, with a chip lost or none.
+    /// Holds the pages that the images give against the book, with a chip lost or none, and what they find against the
+    /// book's log; whether that has tickets and all keep the rules.
     pub fn hold(
         &self,
         to: &mut Comparison,
@@ -80,16 +130,35 @@ impl Store {
         images: &mut Images,
         lost: u64,
         pages: &[usize],
-    ) {
+    ) -> bool {
         for &page in pages {
             let found = to.page(random, self.g, images, lost, page as u64);
             if found != self.book[page] {
-                to.fail(
-                    self.g,
-                    &format!("page {page} read with lost chip {lost} is not its last done write"),
-                );
+                to.fail(self.g, &format!("page {page} read with lost chip {lost} is not as the book has it"));
             }
         }
+        self.hold_log(to, random, images, lost)
+    }
+
+    /// A question is answered as the book's log has it.
+    fn hold_log(&self, to: &mut Comparison, random: &mut Random, images: &mut Images, lost: u64) -> bool {
+        let log = self.log();
+        let (lot, bag) = log.any_bag(random);
+        let answer = to.answer(random, self.g, images, &Call::Find { lost, lot, bag });
+        let expected = finds(&log, lot, bag);
+        if (answer.status.status, answer.found) != expected {
+            let asked = format!("lot {lot}, bag {bag}, asked for with lost chip {lost}");
+            to.fail(self.g, &format!("{asked}: answered {answer:?}, the book's log has {expected:?}"));
+        }
+        to.coverage.hit(match expected {
+            (DONE, [1, ..]) => "log held, a weight stands",
+            (DONE, _) => "log held, none stands",
+            _ => "log held, refused 11",
+        });
+        let good = expected.0 == DONE;
+        to.coverage.hit_if(good && log.is_full(), "log held, it fills every page");
+        to.coverage.hit_if(good && log.tickets().len() >= 100, "log held of 100 tickets or more");
+        good && !log.bytes.is_empty()
     }
 
     /// One chip becomes other bytes, or keeps its own, and is named as lost.
@@ -101,27 +170,31 @@ impl Store {
         chip: usize,
         filling: &str,
         pages: &[usize],
-    ) {
+    ) -> bool {
         let mut images = images.clone();
         fill_chip(random, self.shape, &mut images, chip, filling);
-        self.hold(to, random, &mut images, chip as u64, pages);
+        let logged = self.hold(to, random, &mut images, chip as u64, pages);
         to.coverage.hit(&format!("book held with a chip {filling}"));
+        to.coverage.hit_if(logged, &format!("log held with a chip {filling}"));
+        logged
     }
 
     /// A few pages of the book, with one chip lost or none, after a cut call or in between.
     pub fn hold_some(&self, to: &mut Comparison, random: &mut Random, images: &Images, cut: Option<&str>) {
         let pages: Vec<usize> = (0..FEW).map(|_| random.below(self.book.len())).collect();
-        match random.below(self.shape.n + 2) {
+        let logged = match random.below(self.shape.n + 2) {
             chip if chip <= self.shape.n => {
                 let filling = random.pick(&FILLINGS);
-                self.hold_without(to, random, images, chip, filling, &pages);
+                self.hold_without(to, random, images, chip, filling, &pages)
             }
             _ => self.hold(to, random, &mut images.clone(), NO_CHIP, &pages),
-        }
+        };
         let phase = images.view(self.shape).collection().phase;
         to.coverage.hit(&format!("book held in phase {phase}"));
+        to.coverage.hit_if(logged, &format!("log held in phase {phase}"));
         if let Some(call) = cut {
             to.coverage.hit(&format!("book held after a cut {call}"));
+            to.coverage.hit_if(logged, &format!("log held after a cut {call}"));
         }
     }
 
@@ -129,8 +202,9 @@ impl Store {
     /// a few.
     pub fn hold_all(&self, to: &mut Comparison, random: &mut Random, images: &Images) {
         let pages = self.some_pages(random);
-        self.hold(to, random, &mut images.clone(), NO_CHIP, &pages);
+        let logged = self.hold(to, random, &mut images.clone(), NO_CHIP, &pages);
         to.coverage.hit("book held with no chip lost");
+        to.coverage.hit_if(logged, "log held with no chip lost");
         for chip in 0..=self.shape.n {
             for filling in FILLINGS {
                 self.hold_without(to, random, images, chip, filling, &pages);
@@ -161,5 +235,13 @@ impl Store {
             }
             self.hold_some(to, random, &left, None);
         });
+    }
+}
+
+/// What a log has a question answered: the status, whether a weight stands, gross and tare.
+fn finds(log: &Log, lot: u32, bag: u16) -> (u64, [u64; 3]) {
+    match log.first_bad() {
+        Some(_) => (11, [0; 3]),
+        None => (DONE, log.standing(lot, bag)),
     }
 }

@@ -5,10 +5,11 @@ use crate::coverage::Coverage;
 use crate::generator::{ALL, LARGE};
 use crate::guard_pages::{PageGuarded, Placement};
 use crate::library::{self, LentImages};
+use crate::log_notes::Walk;
 use crate::notes;
 use crate::plan::Plan;
 use crate::random::Random;
-use crate::reference::{self, Geometry, Images, Status, CUT, DONE, NO_CHIP};
+use crate::reference::{self, Finding, Geometry, Images, Status, Weight, CUT, DONE, NO_CHIP};
 use crate::strange::strange_things;
 use std::process::exit;
 
@@ -23,11 +24,44 @@ pub enum Call {
     Write { lost: u64, page: u64, data: Vec<u8>, allowance: u64 },
     Commit { lost: u64, stripe: u64, allowance: u64 },
     Collect { lost: u64, chip: u64, allowance: u64 },
+    Add { lost: u64, ticket: Vec<u8>, allowance: u64 },
+    Find { lost: u64, lot: u32, bag: u16 },
+}
+
+/// What a call answers. A question alone finds something: 1 if a weight stands, its gross and its tare.
+#[derive(Clone, Copy, PartialEq, Eq)]
+pub struct Answer {
+    pub status: Status,
+    pub found: [u64; 3],
+}
+
+impl From<Status> for Answer {
+    fn from(status: Status) -> Answer {
+        Answer { status, found: [0; 3] }
+    }
+}
+
+impl From<Finding> for Answer {
+    fn from(Finding { status, weight }: Finding) -> Answer {
+        let found = weight.map_or([0; 3], |Weight { gross, tare }| [1, gross as u64, tare as u64]);
+        Answer { status, found }
+    }
+}
+
+impl std::fmt::Debug for Answer {
+    fn fmt(&self, f: &mut std::fmt::Formatter) -> std::fmt::Result {
+        match self.found {
+            [0, 0, 0] => write!(f, "{:?}", self.status),
+            found => write!(f, "{:?} with {found:?}", self.status),
+        }
+    }
 }
 
 impl Call {
-    /// One of each kind; the number is its page, stripe or chip, and the bytes are a read's buffer and a write's data.
-    pub fn of_each_kind(lost: u64, number: u64, [buffer, data]: [Vec<u8>; 2], allowance: u64) -> [Call; 6] {
+    /// One of each kind; the number is its page, stripe, chip, lot and bag, and the bytes are a read's buffer, a
+    /// write's data and a ticket.
+    pub fn of_each_kind(lost: u64, number: u64, bytes: [Vec<u8>; 3], allowance: u64) -> [Call; 8] {
+        let [buffer, data, ticket] = bytes;
         [
             Call::Format { allowance },
             Call::Open { lost, allowance },
@@ -35,6 +69,8 @@ impl Call {
             Call::Write { lost, page: number, data, allowance },
             Call::Commit { lost, stripe: number, allowance },
             Call::Collect { lost, chip: number, allowance },
+            Call::Add { lost, ticket, allowance },
+            Call::Find { lost, lot: number as u32, bag: number as u16 },
         ]
     }
 
@@ -46,6 +82,8 @@ impl Call {
             Call::Write { .. } => "write",
             Call::Commit { .. } => "commit",
             Call::Collect { .. } => "collect",
+            Call::Add { .. } => "add",
+            Call::Find { .. } => "find",
         }
     }
 
@@ -65,6 +103,10 @@ impl Call {
             Call::Collect { lost, chip, allowance } => {
                 format!("collect, lost {lost}, chip {chip}, allowance {allowance}")
             }
+            Call::Add { lost, ticket, allowance } => {
+                format!("add, lost {lost}, ticket {ticket:?}, allowance {allowance}")
+            }
+            Call::Find { lost, lot, bag } => format!("find, lost {lost}, lot {lot}, bag {bag}"),
         }
     }
 
@@ -76,19 +118,27 @@ impl Call {
             | Call::Read { lost, .. }
             | Call::Write { lost, .. }
             | Call::Commit { lost, .. }
-            | Call::Collect { lost, .. } => Some(lost),
+            | Call::Collect { lost, .. }
+            | Call::Add { lost, .. }
+            | Call::Find { lost, .. } => Some(lost),
         }
     }
 
-    /// A read makes no store.
+    /// Whether it makes no store, whatever it is asked.
+    pub fn only_reads(&self) -> bool {
+        matches!(self, Call::Read { .. } | Call::Find { .. })
+    }
+
+    /// What it may store; of a call that makes no store, anything.
     pub fn allowance(&self) -> u64 {
         match *self {
-            Call::Read { .. } => ALL,
+            Call::Read { .. } | Call::Find { .. } => ALL,
             Call::Format { allowance }
             | Call::Open { allowance, .. }
             | Call::Write { allowance, .. }
             | Call::Commit { allowance, .. }
-            | Call::Collect { allowance, .. } => allowance,
+            | Call::Collect { allowance, .. }
+            | Call::Add { allowance, .. } => allowance,
         }
     }
 
@@ -97,6 +147,7 @@ impl Call {
         match self {
             Call::Read { buffer, .. } => buffer,
             Call::Write { data, .. } => data,
+            Call::Add { ticket, .. } => ticket,
             _ => &[],
         }
     }
@@ -105,45 +156,45 @@ impl Call {
     pub fn allowed(&self, allowed: u64) -> Call {
         let mut call = self.clone();
         match &mut call {
-            Call::Read { .. } => {}
+            Call::Read { .. } | Call::Find { .. } => {}
             Call::Format { allowance }
             | Call::Open { allowance, .. }
             | Call::Write { allowance, .. }
             | Call::Commit { allowance, .. }
-            | Call::Collect { allowance, .. } => *allowance = allowed,
+            | Call::Collect { allowance, .. }
+            | Call::Add { allowance, .. } => *allowance = allowed,
         }
         call
     }
 
     /// How many stores its list has on these images.
     pub fn length(&self, g: Geometry, images: &Images) -> u64 {
-        self.allowed(ALL).by_reference(g, &mut images.clone()).0.stores
+        self.allowed(ALL).by_reference(g, &mut images.clone()).0.status.stores
     }
 
-    /// Its answer by the reference, and its buffer or data as it is left.
-    fn by_reference(&self, g: Geometry, images: &mut Images) -> (Status, Vec<u8>) {
-        match self {
-            Call::Format { allowance } => (reference::format(g, images, *allowance), Vec::new()),
-            Call::Open { lost, allowance } => (reference::open(g, images, *lost, *allowance), Vec::new()),
-            Call::Read { lost, page, buffer } => {
-                let mut buffer = buffer.clone();
-                (reference::read(g, images, *lost, *page, &mut buffer), buffer)
+    /// Its answer by the reference, and the bytes that it brought along as they are left.
+    fn by_reference(&self, g: Geometry, images: &mut Images) -> (Answer, Vec<u8>) {
+        let mut bytes = self.bytes().to_vec();
+        let status = match *self {
+            Call::Format { allowance } => reference::format(g, images, allowance),
+            Call::Open { lost, allowance } => reference::open(g, images, lost, allowance),
+            Call::Read { lost, page, .. } => reference::read(g, images, lost, page, &mut bytes),
+            Call::Write { lost, page, allowance, .. } => {
+                reference::write(g, images, lost, page, &bytes, allowance)
             }
-            Call::Write { lost, page, data, allowance } => {
-                (reference::write(g, images, *lost, *page, data, *allowance), data.clone())
+            Call::Commit { lost, stripe, allowance } => reference::commit(g, images, lost, stripe, allowance),
+            Call::Collect { lost, chip, allowance } => reference::collect(g, images, lost, chip, allowance),
+            Call::Add { lost, allowance, .. } => reference::add(g, images, lost, &bytes, allowance),
+            Call::Find { lost, lot, bag } => {
+                return (reference::find(g, images, lost, lot, bag).into(), bytes)
             }
-            Call::Commit { lost, stripe, allowance } => {
-                (reference::commit(g, images, *lost, *stripe, *allowance), Vec::new())
-            }
-            Call::Collect { lost, chip, allowance } => {
-                (reference::collect(g, images, *lost, *chip, *allowance), Vec::new())
-            }
-        }
+        };
+        (status.into(), bytes)
     }
 
     /// The same by the library.
-    fn by_library(&self, g: Geometry, lent: &mut LentImages<PageGuarded>, bytes: &mut PageGuarded) -> Status {
-        match *self {
+    fn by_library(&self, g: Geometry, lent: &mut LentImages<PageGuarded>, bytes: &mut PageGuarded) -> Answer {
+        let status = match *self {
             Call::Format { allowance } => library::format(g, lent, allowance),
             Call::Open { lost, allowance } => library::open(g, lent, lost, allowance),
             Call::Read { lost, page, .. } => library::read(g, lent, lost, page, bytes),
@@ -152,18 +203,24 @@ impl Call {
             }
             Call::Commit { lost, stripe, allowance } => library::commit(g, lent, lost, stripe, allowance),
             Call::Collect { lost, chip, allowance } => library::collect(g, lent, lost, chip, allowance),
-        }
+            Call::Add { lost, allowance, .. } => library::add(g, lent, lost, bytes, allowance),
+            Call::Find { lost, lot, bag } => {
+                let (status, found) = library::find(g, lent, lost, lot, bag);
+                return Answer { status, found };
+            }
+        };
+        status.into()
     }
 
     /// Seals what it may only read, or opens it again.
     fn seal(&self, lent: &mut LentImages<PageGuarded>, bytes: &mut PageGuarded, sealed: bool) {
         match self {
-            Call::Read { .. } => {
+            Call::Read { .. } | Call::Find { .. } => {
                 lent.chips.seal(sealed);
                 lent.records.seal(sealed);
                 lent.slots.seal(sealed);
             }
-            Call::Write { .. } => bytes.seal(sealed),
+            Call::Write { .. } | Call::Add { .. } => bytes.seal(sealed),
             _ => lent.slots.seal(sealed),
         }
     }
@@ -208,6 +265,11 @@ impl Comparison {
     /// The call through the reference, on the images, and through the library, on copies; what
     /// they leave must be the same.
     pub fn call(&mut self, random: &mut Random, g: Geometry, images: &mut Images, call: &Call) -> Status {
+        self.on_both(random, g, images, call).0.status
+    }
+
+    /// The same, with all that it answers.
+    pub fn answer(&mut self, random: &mut Random, g: Geometry, images: &mut Images, call: &Call) -> Answer {
         self.on_both(random, g, images, call).0
     }
 
@@ -221,9 +283,9 @@ impl Comparison {
         page: u64,
     ) -> Vec<u8> {
         let call = Call::Read { lost, page, buffer: random.bytes(g.w as usize) };
-        let (status, bytes) = self.on_both(random, g, images, &call);
-        if status.status != DONE {
-            self.fail(g, &format!("{}: answered {status:?}, and every page is owed", call.describe()));
+        let (answer, bytes) = self.on_both(random, g, images, &call);
+        if answer.status.status != DONE {
+            self.fail(g, &format!("{}: answered {answer:?}, and every page is owed", call.describe()));
         }
         bytes
     }
@@ -234,7 +296,7 @@ impl Comparison {
         g: Geometry,
         images: &mut Images,
         call: &Call,
-    ) -> (Status, Vec<u8>) {
+    ) -> (Answer, Vec<u8>) {
         if self.tell {
             println!("case {}: {}: {} on {g:?}", self.case, self.about, call.describe());
         }
@@ -252,12 +314,12 @@ impl Comparison {
         if let Err(what) = notes::note(&mut self.coverage, g, &before, call, expected, &bytes) {
             self.fail(g, &format!("harness: {}: {what}", call.describe()));
         }
-        self.note_strange(g, &before, call, expected);
+        self.note_strange(g, &before, call, expected.status);
         (expected, bytes)
     }
 
     /// The call through the library, on copies of the images that it leaves in `lent`.
-    fn on_library(&mut self, random: &mut Random, g: Geometry, images: &Images, call: &Call) -> Status {
+    fn on_library(&mut self, random: &mut Random, g: Geometry, images: &Images, call: &Call) -> Answer {
         let (placement, point) = random.pick(&[
             (Placement::AtTheEnd, "buffers that end at a guard page"),
             (Placement::AtTheStart, "buffers that begin at a guard page"),
@@ -271,15 +333,15 @@ impl Comparison {
             return call.by_library(g, lent, lent_bytes);
         }
         call.seal(lent, lent_bytes, true);
-        let status = call.by_library(g, lent, lent_bytes);
+        let answer = call.by_library(g, lent, lent_bytes);
         call.seal(lent, lent_bytes, false);
         self.coverage.hit(&format!("buffers that {} may only read, sealed", call.name()));
-        status
+        answer
     }
 
-    /// What the images had that no list of calls leaves, for a read or a call that worked on them.
+    /// What the images had that no list of calls leaves, for a call that reads or that worked on them.
     fn note_strange(&mut self, g: Geometry, before: &Images, call: &Call, status: Status) {
-        let works = matches!(call, Call::Read { .. }) || call.lost() == Some(NO_CHIP);
+        let works = call.only_reads() || call.lost() == Some(NO_CHIP);
         let shape = g.shape().filter(|shape| self.built && works && shape.pages() < LARGE);
         if let (Some(shape), DONE | CUT) = (shape, status.status) {
             for thing in strange_things(before.view(shape)) {
@@ -332,9 +394,16 @@ impl Comparison {
         }
         self.coverage.hit_if(length > 0, &format!("every allowance: {}", call.name()));
         self.coverage.hit_if(length >= 100, "every allowance: list of 100 stores or more");
-        if let (Call::Write { page, .. }, true) = (call, length > 0) {
-            let both = Plan::of_write(g, images, *page).commits_and_collects();
-            self.coverage.hit_if(both, "every allowance: write that commits and collects");
-        }
+        let plan = match call {
+            _ if length == 0 => return,
+            Call::Write { page, .. } => Plan::of_write(g, images, *page),
+            Call::Add { .. } => {
+                let shape = g.shape().expect("it is not refused");
+                Plan::of_add(g, images, Walk::new(images.view(shape), NO_CHIP).page() as u64)
+            }
+            _ => return,
+        };
+        let both = format!("every allowance: {} that commits and collects", call.name());
+        self.coverage.hit_if(plan.commits_and_collects(), &both);
     }
 }

@@ -69,7 +69,7 @@ pub fn by_calls(random: &mut Random, g: Geometry, shape: Shape) -> Images {
 }
 
 /// Cuts a collection somewhere, on any chip that has a victim.
-fn leave_collection(random: &mut Random, g: Geometry, shape: Shape, images: &mut Images) {
+pub fn leave_collection(random: &mut Random, g: Geometry, shape: Shape, images: &mut Images) {
     open(g, images, NO_CHIP, ALL);
     let first = random.below(shape.n + 1);
     for i in 0..=shape.n {

@@ -4,6 +4,7 @@ use crate::calls::{Call, Comparison};
 use crate::generator::ALL;
 use crate::random::Random;
 use crate::reference::{Geometry, Images, NO_CHIP};
+use crate::tickets::any_ticket;
 
 /// Each number, and each product and sum, at its limit and beyond.
 pub const GEOMETRY_POINTS: [&str; 44] = [
@@ -141,6 +142,28 @@ pub fn list_geometry(random: &mut Random) -> Geometry {
     Geometry { n, w, k, b, s, m }
 }
 
+/// For logs: few pages mostly, so that a log fills them; one ticket to a page often, and 256 at times.
+pub fn log_geometry(random: &mut Random) -> Geometry {
+    let (mut k, mut b, m) = (random.between(2, 4), random.between(3, 4), random.between(1, 2));
+    if random.one_in(20) {
+        (k, b) = (random.between(2, 128), random.between(2, 6));
+    }
+    let w = match random.below(40) {
+        0 => 4_096,
+        1..=16 => 16 * random.between(2, 4),
+        _ => 16,
+    };
+    k = k.max(m + 2);
+    let most = (b - 1) * k - m - 1;
+    let s = match random.below(4) {
+        0 => most,
+        _ => random.between(1, most.min(3)),
+    };
+    let n = random.between(2, 6);
+    let [n, w, k, b, s, m] = [n, w, k, b, s, m].map(|number| number as u64);
+    Geometry { n, w, k, b, s, m }
+}
+
 /// Every call is refused for its geometry, whatever else there is.
 pub fn bad_geometry_case(to: &mut Comparison, random: &mut Random) {
     let (g, point) = bad_geometry(random);
@@ -153,10 +176,11 @@ pub fn bad_geometry_case(to: &mut Comparison, random: &mut Random) {
     let [chips, records, slots] = lengths.map(|length| vec![fill; length as usize]);
     let mut images = Images { chips, records, slots };
     let bytes = random.bytes(if fitting && g.w < 5_000 { g.w as usize } else { 16 });
+    let ticket = any_ticket(random);
     let lost = random.pick(&[NO_CHIP, 0, 9, ALL]);
     let allowance = random.pick(&[0, 1, ALL]);
     let number = random.pick(&[0, 1, ALL]);
-    for call in &Call::of_each_kind(lost, number, [bytes.clone(), bytes], allowance) {
+    for call in &Call::of_each_kind(lost, number, [bytes.clone(), bytes, ticket], allowance) {
         let status = to.call(random, g, &mut images, call);
         if status.status != 1 {
             to.fail(g, &format!("harness: {point} is {status:?}, not refused 1"));

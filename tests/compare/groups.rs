@@ -6,6 +6,7 @@ use crate::geometries::GEOMETRY_POINTS;
 use crate::paper::CASES;
 use crate::points::*;
 use crate::strange::{ANY_PHASE, PHASE_1, PHASE_2};
+use crate::tickets::BROKEN;
 
 pub struct Table {
     pub title: &'static str,
@@ -36,13 +37,13 @@ fn table<I: IntoIterator<Item = String>>(
     Group::Table(Table { title, rows, columns })
 }
 
-fn calls() -> [&'static str; 6] {
+fn calls() -> [&'static str; 8] {
     TABLE.map(|(call, _)| call)
 }
 
 /// The refusals of a call.
 fn numbers_of(call: &str) -> &'static [u64] {
-    TABLE.iter().find(|row| row.0 == call).expect("one of the six calls").1
+    TABLE.iter().find(|row| row.0 == call).expect("one of the calls").1
 }
 
 // ---------------------------------------------------------------------------------------------
@@ -51,10 +52,10 @@ fn numbers_of(call: &str) -> &'static [u64] {
 
 fn answers() -> Group {
     let mut columns = vec!["done".to_string(), "cut".to_string()];
-    columns.extend((1..=10).map(|number| number.to_string()));
-    table("answers: done, cut, refused 1 to 10", &calls(), &columns, |call, answer| match answer {
+    columns.extend((1..=12).map(|number| number.to_string()));
+    table("answers: done, cut, refused 1 to 12", &calls(), &columns, |call, answer| match answer {
         "done" => Some(format!("{call} done")),
-        "cut" => (call != "read").then(|| format!("{call} cut")),
+        "cut" => (!READING.contains(&call)).then(|| format!("{call} cut")),
         number => {
             let number = number.parse().expect("a number");
             numbers_of(call).contains(&number).then(|| format!("{call} refused {number}"))
@@ -63,16 +64,19 @@ fn answers() -> Group {
 }
 
 /// Whether one call can be turned back for both, as far as it is told here: of images of another length nobody
-/// asks whether they are sound, a lost chip that is none of the chips is not lost, and work is looked for in sound
-/// images with a good request only.
-fn both_apply(first: u64, later: u64) -> bool {
+/// asks whether they are sound, a lost chip that is none of the chips is not lost, and work and the log are looked for
+/// in sound images with a good request only. A ticket that is given is looked at in any.
+fn both_apply(call: &str, first: u64, later: u64) -> bool {
     match later {
         2 => first == 1,
         3 => first == 2,
         4..=6 => first >= 3,
         7 | 8 => first >= 2,
         9 => first >= 2 && first != 3,
-        _ => first == 6 || first == 9,
+        10 => first == 6 || first == 9,
+        11 if call == "add" => first >= 2,
+        11 => first == 3,
+        _ => first == 3 || first >= 6,
     }
 }
 
@@ -85,10 +89,12 @@ fn order() -> impl Iterator<Item = Group> {
         "write refused",
         "commit refused",
         "collect refused",
+        "add refused",
+        "find refused",
     ];
-    TABLE.iter().zip(titles).map(|(&(_, numbers), title)| {
+    TABLE.iter().zip(titles).map(|(&(call, numbers), title)| {
         let pairs = numbers.iter().flat_map(|&later| numbers.iter().map(move |&first| (first, later)));
-        let pairs = pairs.filter(|&(first, later)| first < later && both_apply(first, later));
+        let pairs = pairs.filter(|&(first, later)| first < later && both_apply(call, first, later));
         let mut points: Vec<String> =
             pairs.map(|(first, later)| format!("{title} {first} before {later}")).collect();
         if numbers.contains(&6) {
@@ -135,8 +141,13 @@ fn bytes() -> Group {
     })
 }
 
+fn ticket_lengths() -> Group {
+    let others = (0..=40).filter(|&len| len != 16);
+    Group::Points("add with", others.map(|len| format!("add with {len} bytes refused")).collect())
+}
+
 fn allowances() -> Group {
-    let storing: Vec<&str> = calls().into_iter().filter(|&call| call != "read").collect();
+    let storing: Vec<&str> = calls().into_iter().filter(|call| !READING.contains(call)).collect();
     let mut columns = vec!["0", "one store less", "exact length", "one store more"];
     columns.extend(AMPLE.map(|ample| ample.1));
     table("allowances", &storing, &columns, |call, allowance| {
@@ -192,14 +203,56 @@ fn chips() -> [Group; 2] {
 }
 
 // ---------------------------------------------------------------------------------------------
+// Logs
+// ---------------------------------------------------------------------------------------------
+
+fn logs() -> [Group; 8] {
+    [
+        points("addition", &ADDITION),
+        points("add", &ADD),
+        points("find", &FIND),
+        log_ends(),
+        broken_rules(),
+        bad_places(),
+        points("log refused", &LOG_REFUSALS),
+        rebuilt_logs(),
+    ]
+}
+
+fn log_ends() -> Group {
+    table("logs", &LOG_ENDS, &["add", "find"], |end, call| Some(format!("{end}: {call}")))
+}
+
+/// A ticket of kind 0 in a log is its end.
+fn broken_rules() -> Group {
+    let columns = ["given", "found by add", "found by find"];
+    table("rules of a ticket, one broken", &BROKEN, &columns, |rule, column| {
+        (column == "given" || !rule.starts_with("kind 0")).then(|| format!("{rule}: {column}"))
+    })
+}
+
+fn bad_places() -> Group {
+    table("tickets found that break a rule", &BAD_PLACES, &["add", "find"], |place, call| {
+        Some(format!("{place}: {call}"))
+    })
+}
+
+fn rebuilt_logs() -> Group {
+    let columns = ["log through partial", "log through parity"];
+    table("by lost chip, 0 to N", &STRIPES, &columns, |n, what| {
+        (0..=number_in(n)).map(|chip| format!("{what}, chip {chip}, {n}")).collect::<Vec<_>>()
+    })
+}
+
+// ---------------------------------------------------------------------------------------------
 // Images
 // ---------------------------------------------------------------------------------------------
 
 fn strange_images() -> Group {
     let rows = [&ANY_PHASE[..], &PHASE_1, &PHASE_2].concat();
-    let columns = ["open", "read", "write", "commit", "collect"];
-    table("sound images that no list of calls leaves, with calls on them", &rows, &columns, |thing, call| {
-        let can_be = ANY_PHASE.contains(&thing) || ["open", "read"].contains(&call);
+    let columns = &calls()[1..];
+    table("sound images that no list of calls leaves, with calls on them", &rows, columns, |thing, call| {
+        let can_be = ANY_PHASE.contains(&thing) || ["open", "read", "find"].contains(&call);
         can_be.then(|| format!("{thing}: {call}"))
     })
 }
@@ -229,6 +282,7 @@ pub fn groups() -> Vec<Group> {
         requests(),
         lost_chips(),
         bytes(),
+        ticket_lengths(),
         allowances(),
         points("every allowance", &ALLOWANCES),
         points("geometry", &GEOMETRY_POINTS),
@@ -244,12 +298,14 @@ pub fn groups() -> Vec<Group> {
         set_bits(),
     ]);
     groups.extend(chips());
+    groups.extend(logs());
     groups.extend([points("images", &MADE_IMAGES), strange_images()]);
     groups.extend(damages());
     groups.extend([
         broken(),
         points("list", &LISTS),
         points("book held", &BOOK),
+        points("log held", &LOG_HELD),
         points("buffers", &BUFFERS),
     ]);
     groups

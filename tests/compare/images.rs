@@ -5,10 +5,12 @@ use crate::calls::{Call, Comparison};
 use crate::damage::{change_byte, Change};
 use crate::generator::{self, ALL, LARGE};
 use crate::geometries::{good_geometry, largest_geometry};
+use crate::logs::lay_log;
 use crate::random::Random;
 use crate::reference::{self, Geometry, Images, Shape, CUT, DONE, NO_CHIP, RECORD_BYTES};
 use crate::requests::{any_call, any_data, any_storing, highest_page, limited, other_length};
 use crate::strange::strange_things;
+use crate::tickets::{any_ticket, lot_and_bag};
 
 /// From so many on it makes one of each kind.
 const LARGEST: usize = 60_000;
@@ -62,7 +64,11 @@ fn images_for(to: &mut Comparison, random: &mut Random, g: Geometry, shape: Shap
             let phase = random.pick(&[0, 0, 1, 2, 2]);
             to.about = format!("images built in phase {phase}");
             to.built = true;
-            (generator::sound(random, shape, phase), true)
+            let mut images = generator::sound(random, shape, phase);
+            if random.one_in(3) {
+                lay_log(random, shape, &mut images);
+            }
+            (images, true)
         }
         _ => {
             to.about = "images garbage".to_string();
@@ -144,7 +150,7 @@ fn all_refused(
     number: u64,
     point: &str,
 ) {
-    let bytes = [random.bytes(shape.w), random.bytes(shape.w)];
+    let bytes = [random.bytes(shape.w), random.bytes(shape.w), any_ticket(random)];
     let mut calls = Vec::from(Call::of_each_kind(NO_CHIP, 0, bytes, ALL));
     calls.retain(|call| !matches!(call, Call::Format { .. }));
     // On a large image one of them is enough.
@@ -204,7 +210,7 @@ fn open_without_a_chip(
 }
 
 /// The lost chip of a case: none, or one whose stretch becomes other bytes.
-fn lose_chip(to: &mut Comparison, random: &mut Random, shape: Shape, images: &mut Images) -> u64 {
+pub fn lose_chip(to: &mut Comparison, random: &mut Random, shape: Shape, images: &mut Images) -> u64 {
     if random.one_in(3) {
         return NO_CHIP;
     }
@@ -240,7 +246,7 @@ pub fn fill_chip(random: &mut Random, shape: Shape, images: &mut Images, chip: u
 // Calls on images
 // ---------------------------------------------------------------------------------------------
 
-fn random_calls(
+pub fn random_calls(
     to: &mut Comparison,
     random: &mut Random,
     g: Geometry,
@@ -279,8 +285,8 @@ fn exchange(to: &mut Comparison, random: &mut Random, g: Geometry, images: &Imag
     to.coverage.hit_if(made, "images with K and B exchanged, not refused");
 }
 
-/// Sound images are read and opened, with any allowance or every one, and in half of the cases stay as that leaves
-/// them.
+/// Sound images are read, asked and opened, with any allowance or every one, and in half of the cases stay as that
+/// leaves them.
 fn open_sound(to: &mut Comparison, random: &mut Random, g: Geometry, shape: Shape, images: &mut Images) {
     let mut opened = images.clone();
     for _ in 0..2 {
@@ -288,6 +294,10 @@ fn open_sound(to: &mut Comparison, random: &mut Random, g: Geometry, shape: Shap
         let buffer = random.bytes(shape.w);
         to.call(random, g, images, &Call::Read { lost, page, buffer });
     }
+    let chip = random.below(shape.n + 1) as u64;
+    let lost = random.pick(&[NO_CHIP, chip]);
+    let (lot, bag) = lot_and_bag(random);
+    to.call(random, g, images, &Call::Find { lost, lot, bag });
     let call = Call::Open { lost: NO_CHIP, allowance: ALL };
     if shape.pages() < LARGE && random.one_in(3) {
         to.every_allowance(random, g, images, &call, |_, _, _, _| {});

@@ -10,6 +10,7 @@ use crate::random::Random;
 use crate::reference::*;
 use crate::requests::{any_chip, any_data, any_lost, any_storing, any_stripe};
 use crate::strange::strange_things;
+use crate::tickets::{any_ticket, spoil, ticket_page, tickets};
 
 /// Which pages a list writes mostly.
 #[derive(Clone, Copy)]
@@ -26,14 +27,17 @@ struct List {
     pattern: Pattern,
     few: Vec<usize>,
     swept: usize,
+    /// What it writes are tickets mostly, and most calls are additions.
+    of_tickets: bool,
     /// The name of the last call, if it was cut.
     cut: Option<&'static str>,
     committed: u64,
     collected: u64,
+    added: u64,
 }
 
 impl List {
-    fn new(to: &mut Comparison, random: &mut Random, g: Geometry) -> List {
+    fn new(to: &mut Comparison, random: &mut Random, g: Geometry, of_tickets: bool) -> List {
         let store = Store::new(to, random, g);
         let (shape, pages) = (store.shape, store.book.len());
         let mut few: Vec<usize> = (0..random.between(1, 4)).map(|_| random.below(pages)).collect();
@@ -44,7 +48,7 @@ impl List {
             _ if shape.m >= 200 => Pattern::Sweep,
             _ => random.pick(&[Pattern::Any, Pattern::Any, Pattern::Few]),
         };
-        List { store, pattern, few, swept: 0, cut: None, committed: 0, collected: 0 }
+        List { store, pattern, few, swept: 0, of_tickets, cut: None, committed: 0, collected: 0, added: 0 }
     }
 
     /// A call of the list, with all that it may store.
@@ -60,6 +64,7 @@ impl List {
         let at_rest = self.store.phase() == 0;
         match random.below(24) {
             0 => Call::Open { lost, allowance },
+            7..=15 if self.of_tickets => Call::Add { lost, ticket: any_ticket(random), allowance },
             1..=12 if !at_rest => Call::Open { lost, allowance },
             1 | 2 => Call::Commit { lost, stripe: any_stripe(random, self.store.view()), allowance },
             3 | 4 => Call::Collect { lost, chip: any_chip(random, shape), allowance },
@@ -67,11 +72,35 @@ impl List {
                 let page = random.below(self.store.book.len()) as u64;
                 Call::Read { lost, page, buffer: random.bytes(shape.w) }
             }
+            6 => {
+                let (lot, bag) = self.store.log().any_bag(random);
+                Call::Find { lost, lot, bag }
+            }
+            _ if self.of_tickets => self.write_tickets(random),
             _ => {
                 let page = self.next_page(random) as u64;
                 Call::Write { lost, page, data: any_data(random, shape), allowance }
             }
         }
+    }
+
+    /// A page of tickets anywhere, and rarely one that breaks a rule. A log that has such a one is soon made good, and
+    /// one that is full gets an end.
+    fn write_tickets(&mut self, random: &mut Random) -> Call {
+        let (log, w) = (self.store.log(), self.store.shape.w);
+        let bad = log.first_bad().map(|(place, _)| place * TICKET_BYTES / w);
+        let mut page = self.next_page(random);
+        let mut data = tickets(random, w / TICKET_BYTES);
+        match (bad, random.below(20)) {
+            (Some(bad), 0..=14) => page = bad,
+            (None, 0..=7) if log.is_full() => data.fill(0),
+            (None, 8..=12) if log.is_full() => data = ticket_page(random, w),
+            (None, 0) => spoil(random, &mut data),
+            (_, 1..=4) => data = ticket_page(random, w),
+            (_, 5) => data.fill(0),
+            _ => {}
+        }
+        Call::Write { lost: NO_CHIP, page: page as u64, data, allowance: ALL }
     }
 
     fn next_page(&mut self, random: &mut Random) -> usize {
@@ -92,6 +121,9 @@ impl List {
         let status = self.store.call(to, random, call);
         self.committed += (commits && status.status == DONE) as u64;
         self.collected += status.erases;
+        if matches!(call, Call::Add { .. }) {
+            self.note_addition(to, status);
+        }
         if let Some(cut) = self.cut {
             let refused = status.status == 6 && matches!(call, Call::Write { .. });
             to.coverage.hit_if(refused, "list with a write refused after a cut");
@@ -104,6 +136,19 @@ impl List {
         status
     }
 
+    /// An addition, just answered.
+    fn note_addition(&mut self, to: &mut Comparison, status: Status) {
+        self.added += (status.status == DONE) as u64;
+        let again = status.status == DONE && self.cut == Some("add");
+        to.coverage.hit_if(again, "list with an addition after a cut one");
+        let refused = status.status == 6 && self.cut.is_some();
+        to.coverage.hit_if(refused, "list with an addition refused after a cut");
+        let (to_a_page, full) = (self.store.shape.w / TICKET_BYTES, status.status == 12);
+        to.coverage.hit_if(full, "list with a log that fills every page");
+        let more = full && to_a_page > 1;
+        to.coverage.hit_if(more, "list with a log that fills every page, more tickets to a page");
+    }
+
     /// Whether the call commits a stripe, if it is done.
     fn commits(&self, call: &Call) -> bool {
         let (view, shape) = (self.store.view(), self.store.shape);
@@ -111,6 +156,11 @@ impl List {
             Call::Commit { .. } => true,
             Call::Write { page, .. } if page < self.store.book.len() as u64 => {
                 let slotted = view.record(page as usize / shape.n).slot != NO_SLOT;
+                !slotted && view.stripes_with_slot().count() == shape.m
+            }
+            Call::Add { .. } => {
+                let stripe = self.store.log_end().0 / shape.n;
+                let slotted = stripe < shape.s && view.record(stripe).slot != NO_SLOT;
                 !slotted && view.stripes_with_slot().count() == shape.m
             }
             _ => false,
@@ -121,7 +171,7 @@ impl List {
     fn calls(&mut self, to: &mut Comparison, random: &mut Random, length: usize, seldom: usize) {
         for _ in 0..length {
             let call = self.next_call(random);
-            if !matches!(call, Call::Read { .. }) && random.one_in(seldom) {
+            if !call.only_reads() && random.one_in(seldom) {
                 self.store.every_allowance(to, random, &call);
             }
             let call = allowed(random, self.store.g, &self.store.images, call);
@@ -165,8 +215,12 @@ impl List {
         to.about = format!("{}, chip {chip} taken", to.about);
         to.coverage.hit_if(self.store.phase() != 0, "list with a chip taken in phase 1 or 2");
         for _ in 0..random.below(10) {
-            let call = match random.below(4) {
+            let call = match random.below(5) {
                 0 => Call::Open { lost, allowance: random.pick(&[0, 1, 3, ALL]) },
+                1 => {
+                    let (lot, bag) = self.store.log().any_bag(random);
+                    Call::Find { lost, lot, bag }
+                }
                 _ => any_storing(random, &self.store.images, shape, lost),
             };
             let status = self.call(to, random, &call);
@@ -174,6 +228,10 @@ impl List {
             to.coverage.hit_if(opened, "list with a chip taken, then opened");
             let written = status.status == 9 && matches!(call, Call::Write { .. });
             to.coverage.hit_if(written, "list with a chip taken, then written");
+            let added = status.status == 9 && matches!(call, Call::Add { .. });
+            to.coverage.hit_if(added, "list with a chip taken, then added to");
+            let asked = status.status == DONE && matches!(call, Call::Find { .. });
+            to.coverage.hit_if(asked, "list with a chip taken, then asked");
         }
         let pages = self.store.some_pages(random);
         self.store.hold(to, random, &mut self.store.images.clone(), lost, &pages);
@@ -190,6 +248,7 @@ impl List {
         to.coverage.hit_if(length >= 300, "list of 300 calls or more");
         to.coverage.hit_if(self.collected >= 50, "list with 50 collections or more");
         to.coverage.hit_if(self.committed >= 50, "list with 50 commits or more");
+        to.coverage.hit_if(self.added >= 50, "list with 50 additions or more");
         let written = |stripe| !view.record(stripe).current[..shape.n].contains(&NONE);
         to.coverage.hit_if((0..shape.s).all(written), "list with every page written");
         if let Some(thing) = strange_things(view).first() {
@@ -210,9 +269,13 @@ fn allowed(random: &mut Random, g: Geometry, images: &Images, call: Call) -> Cal
 }
 
 pub fn list_case(to: &mut Comparison, random: &mut Random) {
-    let g = list_geometry(random);
-    to.about = "list of calls".to_string();
-    let mut list = List::new(to, random, g);
+    let mut g = list_geometry(random);
+    let of_tickets = g.b * g.k < 2_000 && random.one_in(2);
+    if of_tickets && g.w == 16 && random.one_in(2) {
+        g.w = random.pick(&[32, 48, 64]);
+    }
+    to.about = if of_tickets { "list of calls, of tickets" } else { "list of calls" }.to_string();
+    let mut list = List::new(to, random, g, of_tickets);
     let pages = list.store.shape.pages();
     // On a large chip one page is written until the chip is full and on, but not each time.
     let length = match pages {

@@ -8,7 +8,8 @@
 //!
 //!     rustc -O --edition 2021 main.rs -L DIRECTORY -l static=vazhettu
 //!
-//! A case is a geometry that is refused, images with a few calls on them, or a list of calls from a format on.
+//! A case is a geometry that is refused, images with a few calls on them, a log with additions and questions, or a list
+//! of calls from a format on.
 
 mod book;
 mod breakers;
@@ -24,6 +25,8 @@ mod images;
 #[allow(dead_code)]
 mod library;
 mod lists;
+mod log_notes;
+mod logs;
 mod notes;
 mod paper;
 mod plan;
@@ -36,11 +39,13 @@ mod random;
 mod reference;
 mod requests;
 mod strange;
+mod tickets;
 
 use calls::Comparison;
 use geometries::bad_geometry_case;
 use images::{image_case, largest_case};
 use lists::list_case;
+use logs::{largest_log_case, log_case};
 use random::Random;
 use std::io::Write;
 use std::process::exit;
@@ -106,9 +111,11 @@ fn run_case(to: &mut Comparison, case: u64) {
     unsafe { alarm(TIMEOUT_SECONDS) };
     let mut random = Random::for_case(to.seed, case);
     match random.below(80) {
+        _ if case % (4 * SELDOM) == SELDOM - 1 => largest_log_case(to, &mut random),
         _ if case % SELDOM == SELDOM - 1 => largest_case(to, &mut random),
         0..=9 => bad_geometry_case(to, &mut random),
         10..=16 => list_case(to, &mut random),
+        17..=24 => log_case(to, &mut random),
         _ => image_case(to, &mut random),
     }
 }

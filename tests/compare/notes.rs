@@ -1,24 +1,26 @@
 //! What a call covered, told from the images before it and its answer.
 
-use crate::calls::Call;
+use crate::calls::{Answer, Call};
 use crate::coverage::Coverage;
 use crate::generator::ALL;
 use crate::geometries::{limits_reached, wrapped_lengths};
+use crate::log_notes::{self, Walk};
 use crate::plan::Plan;
 use crate::points::{AMPLE, IMAGES, REQUESTS};
 use crate::reference::*;
+use crate::tickets::broken;
 
 /// Counts the points that the call came by; `bytes` is its buffer or data as it is left. An error means that the
-/// coverage and the reference are at odds on the length of a list.
+/// coverage and the reference are at odds on the length of a list, or on a log.
 pub fn note(
     coverage: &mut Coverage,
     g: Geometry,
     before: &Images,
     call: &Call,
-    status: Status,
+    answer: Answer,
     bytes: &[u8],
 ) -> Result<(), String> {
-    let name = call.name();
+    let (name, status) = (call.name(), answer.status);
     let made = [DONE, CUT].contains(&status.status);
     match status.status {
         DONE => coverage.hit(&format!("{name} done")),
@@ -33,12 +35,15 @@ pub fn note(
     note_numbers(coverage, shape, call, status.status);
     if !made {
         note_refusal(coverage, shape, before, call, status.status);
-        return Ok(());
+        return match status.status {
+            11 | 12 => log_notes::note_refused(coverage, before.view(shape), call, status.status),
+            _ => Ok(()),
+        };
     }
     limits_reached(g).for_each(|point| coverage.hit(point));
     coverage.hit_if(shape.pages() == 65_535, "images of 65,535 pages to a chip");
     coverage.hit_if(before.chips.len() > 1 << 24, "images of more than 2^24 bytes");
-    let length = note_list(coverage, g, before.view(shape), call, status, bytes);
+    let length = note_list(coverage, g, before.view(shape), call, answer, bytes)?;
     note_allowance(coverage, shape, call, length, status)
 }
 
@@ -48,15 +53,20 @@ fn note_list(
     g: Geometry,
     view: View,
     call: &Call,
-    status: Status,
+    answer: Answer,
     bytes: &[u8],
-) -> u64 {
+) -> Result<u64, String> {
+    let status = answer.status;
     let plan = match *call {
-        Call::Format { .. } => return note_format(coverage, view.shape, status),
-        Call::Open { lost, allowance } => return note_open(coverage, view, lost, allowance, status),
+        Call::Format { .. } => return Ok(note_format(coverage, view.shape, status)),
+        Call::Open { lost, allowance } => return Ok(note_open(coverage, view, lost, allowance, status)),
         Call::Read { lost, page, .. } => {
             note_read(coverage, view, lost, page, bytes);
-            return 0;
+            return Ok(0);
+        }
+        Call::Find { lost, lot, bag } => {
+            log_notes::note_find(coverage, view, lost, (lot, bag), answer)?;
+            return Ok(0);
         }
         Call::Write { page, .. } => {
             note_data(coverage, view.shape, page, bytes);
@@ -64,11 +74,15 @@ fn note_list(
         }
         Call::Commit { stripe, .. } => Plan::of_commit(g, view.images, stripe),
         Call::Collect { chip, .. } => Plan::of_collect(g, view.images, chip),
+        Call::Add { .. } => {
+            let page = log_notes::note_add(coverage, view, bytes, status)?;
+            Plan::of_add(g, view.images, page)
+        }
     };
     plan.note(coverage, status.stores);
     let large = status.status == DONE && view.shape.pages() == 65_535;
     coverage.hit_if(large, &format!("{} at 65,535 pages to a chip", call.name()));
-    plan.stores
+    Ok(plan.stores)
 }
 
 fn lengths_of(images: &Images) -> [usize; 3] {
@@ -85,8 +99,8 @@ fn most_stores(shape: Shape, call: &Call) -> usize {
     match call {
         Call::Format { .. } => (n + 1) * b + s + 1,
         Call::Open { .. } => k + 2,
-        Call::Read { .. } => 0,
-        Call::Write { .. } => 4 * k + 13,
+        Call::Read { .. } | Call::Find { .. } => 0,
+        Call::Write { .. } | Call::Add { .. } => 4 * k + 13,
         Call::Commit { .. } => 2 * k + 6,
         Call::Collect { .. } => 2 * k + 4,
     }
@@ -127,16 +141,17 @@ fn request(shape: Shape, call: &Call) -> Option<(u64, u64)> {
         Call::Read { page, .. } | Call::Write { page, .. } => (page, shape.n * shape.s),
         Call::Commit { stripe, .. } => (stripe, shape.s),
         Call::Collect { chip, .. } => (chip, shape.n + 1),
-        Call::Format { .. } | Call::Open { .. } => return None,
+        Call::Format { .. } | Call::Open { .. } | Call::Add { .. } | Call::Find { .. } => return None,
     };
     Some((number, numbers as u64 - 1))
 }
 
-/// The length of a read's buffer or a write's data.
-fn bytes_len(call: &Call) -> Option<usize> {
+/// The length of a read's buffer, a write's data or a ticket, and the right one.
+fn bytes_len(shape: Shape, call: &Call) -> Option<(usize, usize)> {
     match call {
-        Call::Read { buffer, .. } => Some(buffer.len()),
-        Call::Write { data, .. } => Some(data.len()),
+        Call::Read { buffer, .. } => Some((buffer.len(), shape.w)),
+        Call::Write { data, .. } => Some((data.len(), shape.w)),
+        Call::Add { ticket, .. } => Some((ticket.len(), TICKET_BYTES)),
         _ => None,
     }
 }
@@ -165,11 +180,15 @@ fn note_numbers(coverage: &mut Coverage, shape: Shape, call: &Call, status: u64)
             coverage.hit(&format!("{name} naming chip {chip} as lost refused"));
         }
     }
-    if let Some(len) = bytes_len(call) {
-        let refused = [(0, "0"), (shape.w - 1, "W - 1"), (shape.w + 1, "W + 1")];
-        for (_, bytes) in refused.iter().filter(|(bytes, _)| status == 8 && *bytes == len) {
-            coverage.hit(&format!("{name} with {bytes} bytes refused"));
-        }
+    if let (8, Some((len, right))) = (status, bytes_len(shape, call)) {
+        let told = match len {
+            _ if matches!(call, Call::Add { .. }) => len.to_string(),
+            0 => "0".to_string(),
+            _ if len + 1 == right => "W - 1".to_string(),
+            _ if len == right + 1 => "W + 1".to_string(),
+            _ => return,
+        };
+        coverage.hit(&format!("{name} with {told} bytes refused"));
     }
 }
 
@@ -217,7 +236,7 @@ fn note_refusal(coverage: &mut Coverage, shape: Shape, images: &Images, call: &C
 }
 
 fn is_update(call: &Call) -> bool {
-    matches!(call, Call::Write { .. } | Call::Commit { .. } | Call::Collect { .. })
+    matches!(call, Call::Write { .. } | Call::Commit { .. } | Call::Collect { .. } | Call::Add { .. })
 }
 
 fn has_good_request(shape: Shape, call: &Call) -> bool {
@@ -230,12 +249,14 @@ fn has_good_request(shape: Shape, call: &Call) -> bool {
 /// The refusals that the arguments give reason for.
 fn later_by_call(shape: Shape, call: &Call) -> impl Iterator<Item = u64> {
     let lost = call.lost().unwrap_or(NO_CHIP);
-    let other_bytes = bytes_len(call).is_some_and(|len| len != shape.w);
+    let other_bytes = bytes_len(shape, call).is_some_and(|(len, right)| len != right);
+    let bad_ticket = matches!(call, Call::Add { ticket, .. } if !other_bytes && !broken(ticket).is_empty());
     let applies = [
         (lost != NO_CHIP && lost > shape.n as u64, 3),
         (!has_good_request(shape, call), 7),
         (other_bytes, 8),
         (is_update(call) && lost <= shape.n as u64, 9),
+        (bad_ticket, 11),
     ];
     applies.into_iter().filter(|row| row.0).map(|row| row.1)
 }
@@ -243,8 +264,15 @@ fn later_by_call(shape: Shape, call: &Call) -> impl Iterator<Item = u64> {
 /// The refusals that images of the right lengths give reason for, as far as they are told here.
 fn later_by_images(shape: Shape, images: &Images, call: &Call, number: u64) -> impl Iterator<Item = u64> {
     let mut later = Vec::new();
+    let mut sound = number >= 6;
     if number == 3 {
-        later.push(open(Geometry::from(shape), &mut images.clone(), NO_CHIP, 0).status);
+        let status = open(Geometry::from(shape), &mut images.clone(), NO_CHIP, 0).status;
+        sound = [DONE, CUT].contains(&status);
+        later.push(status);
+    }
+    if let (true, Call::Add { lost, .. } | Call::Find { lost, .. }) = (sound, call) {
+        let lost = if number == 3 { NO_CHIP } else { *lost };
+        later.extend(later_by_log(Walk::new(images.view(shape), lost), call));
     }
     if (3..6).contains(&number) && is_update(call) && images.view(shape).collection().phase != 0 {
         later.push(6);
@@ -252,7 +280,14 @@ fn later_by_images(shape: Shape, images: &Images, call: &Call, number: u64) -> i
     if [6, 9].contains(&number) && has_good_request(shape, call) && no_work(images.view(shape), call) {
         later.push(10);
     }
-    later.into_iter().filter(|later| (4..=10).contains(later))
+    later.into_iter().filter(|later| (4..=12).contains(later))
+}
+
+/// The refusals that a log gives reason for, to an addition or to a question.
+fn later_by_log(walk: Walk, call: &Call) -> impl Iterator<Item = u64> {
+    let bad = walk.log.first_bad().is_some();
+    let full = walk.log.is_full() && matches!(call, Call::Add { .. });
+    [(bad, 11), (full, 12)].into_iter().filter(|row| row.0).map(|row| row.1)
 }
 
 /// "no slot; no full block with an unnamed page".

@@ -1,14 +1,15 @@
-//! The worked cases of document 01, with its own numbers and bytes, through the library and through the reference.
+//! The worked cases of document 01, with its own numbers and bytes, through the library and through the reference; and
+//! what document 02 says of tickets, worked out.
 
 use crate::calls::{Call, Comparison};
 use crate::generator::ALL;
 use crate::random::Random;
-use crate::reference::{Geometry, Images, CUT, DONE, NO_CHIP};
+use crate::reference::{Geometry, Images, Status, CUT, DONE, NO_CHIP};
 
 type Case = fn(&mut Comparison);
 
-/// Those of its sections "Bags on the pan" and "Thumbs on the scale".
-pub const CASES: [(&str, Case); 17] = [
+/// Those of its sections "Bags on the pan" and "Thumbs on the scale", and of request 1.
+pub const CASES: [(&str, Case); 24] = [
     ("paper: the seven lines of the bench program", seven_lines),
     ("paper: every byte after the seven lines", every_byte),
     ("paper: every byte after a format", after_format),
@@ -26,6 +27,13 @@ pub const CASES: [(&str, Case); 17] = [
     ("paper: the old number does not move again", second_write),
     ("paper: no victim erased that a record names", collection_store_by_store),
     ("paper: no slot reused that a record names", slot_of_a_cut_write),
+    ("paper: the bytes of a ticket", bytes_of_a_ticket),
+    ("paper: the log's reads, also when cut", reads_of_the_log),
+    ("paper: a cut addition leaves the log", cut_addition),
+    ("paper: the latest ticket stands, if it is a weight", latest_stands),
+    ("paper: tickets that break the rules, given and found", breaking_tickets),
+    ("paper: a log that fills every page", full_log),
+    ("paper: a bad ticket behind the log's end", behind_the_end),
 ];
 
 /// N and the cost for p = 1, 2, ..
@@ -40,7 +48,7 @@ pub fn run(to: &mut Comparison) {
     }
 }
 
-/// W is 16 in all of them.
+/// W is 16 in most of them.
 fn geometry(n: u64, k: u64, b: u64, s: u64, m: u64) -> Geometry {
     Geometry { n, w: 16, k, b, s, m }
 }
@@ -63,7 +71,7 @@ impl ComparedStore<'_> {
     fn unformatted(to: &mut Comparison, g: Geometry) -> ComparedStore<'_> {
         let pages = (g.n + 1) * g.b * g.k;
         let [chips, records, slots] =
-            [pages * 24, (g.s + 1) * 32, (g.m + 1) * 16].map(|length| vec![0x5a; length as usize]);
+            [pages * (g.w + 8), (g.s + 1) * 32, (g.m + 1) * g.w].map(|length| vec![0x5a; length as usize]);
         ComparedStore {
             to,
             random: Random::new(1),
@@ -311,7 +319,7 @@ fn accepted(to: &mut Comparison, g: Geometry, erases: u64) {
 
 fn refused(to: &mut Comparison, g: Geometry) {
     let mut store = ComparedStore::unformatted(to, g);
-    for call in Call::of_each_kind(NO_CHIP, 0, [vec![0; 16], vec![0; 16]], ALL) {
+    for call in Call::of_each_kind(NO_CHIP, 0, [(); 3].map(|()| vec![0; 16]), ALL) {
         let answer = store.call(call);
         store.holds(answer == (1, [0; 4]), "every call is refused 1");
     }
@@ -414,4 +422,178 @@ fn slot_of_a_cut_write(to: &mut Comparison) {
     store.holds(store.slot(1) == [0x99; 16], "slot 1 has the new partial parity");
     store.reads_as(NO_CHIP, 0, 0x3c, 1);
     store.reads_as(0, 0, 0x3c, 0);
+}
+
+// ---------------------------------------------------------------------------------------------
+// Tickets
+// ---------------------------------------------------------------------------------------------
+
+/// Monday's bag: 60.14 kg, the bag's own weight 140 g, in bag 0x0203 of lot 0x04050607.
+const BAG: [u8; 16] = [1, 0, 3, 2, 7, 6, 5, 4, 0xec, 0xea, 0, 0, 140, 0, 0, 0];
+
+fn ticket(kind: u8, bag: u8, lot: u8, gross: u8, tare: u8) -> [u8; 16] {
+    [kind, 0, bag, 0, lot, 0, 0, 0, gross, 0, 0, 0, tare, 0, 0, 0]
+}
+
+impl ComparedStore<'_> {
+    fn add_allowed(&mut self, ticket: &[u8], allowance: u64) -> (u64, [u64; 4]) {
+        self.call(Call::Add { lost: self.lost, ticket: ticket.to_vec(), allowance })
+    }
+
+    fn add(&mut self, ticket: &[u8]) -> [u64; 4] {
+        let (status, counts) = self.add_allowed(ticket, 65_535);
+        self.holds(status == DONE, &format!("the addition of {ticket:?} is done"));
+        counts
+    }
+
+    fn write_bytes(&mut self, page: u64, data: &[u8]) {
+        let call = Call::Write { lost: self.lost, page, data: data.to_vec(), allowance: 65_535 };
+        let status = self.call(call).0;
+        self.holds(status == DONE, &format!("the write of page {page} is done"));
+    }
+
+    /// The question is answered so, with so many reads: 1 if a weight stands, gross and tare.
+    fn finds(&mut self, lost: u64, lot: u32, bag: u16, found: [u64; 3], reads: u64) {
+        let call = Call::Find { lost, lot, bag };
+        let answer = self.to.answer(&mut self.random, self.g, &mut self.images, &call);
+        let as_said = answer.found == found && answer.status == Status { reads, ..Status::default() };
+        self.holds(as_said, &format!("lot {lot}, bag {bag}, {found:?} after {reads} reads, not {answer:?}"));
+    }
+
+    /// The addition is refused with a number, and a question has this status.
+    fn refuses(&mut self, ticket: &[u8], adding: u64, asking: u64) {
+        let added = self.add_allowed(ticket, 65_535);
+        self.holds(added == (adding, [0; 4]), &format!("the addition of {ticket:?} is refused {adding}"));
+        let asked = self.call(Call::Find { lost: self.lost, lot: 7, bag: 3 }).0;
+        self.holds(asked == asking, &format!("a question has the status {asking}"));
+    }
+}
+
+/// "kind .., a zero byte, bag (2 bytes), lot (4), gross grams (4), tare grams (4)", on page 0 of chip 0.
+fn bytes_of_a_ticket(to: &mut Comparison) {
+    let mut store = ComparedStore::new(to, bench_geometry());
+    let counts = store.add(&BAG);
+    store.holds(counts == [0, 1, 0, 3], "a first addition is a first write");
+    let page = [&BAG[..], &[68, 0, 0, 0, 255, 255, 255, 255]].concat();
+    store.holds(store.page_at(0, 0) == page, "the page is the ticket");
+    store.finds(NO_CHIP, 0x0405_0607, 0x0203, [1, 60_140, 140], 1);
+    store.finds(NO_CHIP, 0x0706_0504, 0x0203, [0; 3], 1);
+    store.finds(NO_CHIP, 0x0405_0607, 0x0302, [0; 3], 1);
+}
+
+/// "counts the log's reads up to and including that page, even when cut, and the write's".
+fn reads_of_the_log(to: &mut Comparison) {
+    let mut store = ComparedStore::new(to, Geometry { w: 32, ..bench_geometry() });
+    for (bag, of_log, of_write) in [(0, 0, 0), (1, 1, 1), (2, 1, 0), (3, 2, 1), (4, 2, 0)] {
+        let ticket = ticket(1, bag, 7, 9, 1);
+        for allowance in 0..2 {
+            let (images, cut) = (store.images.clone(), store.add_allowed(&ticket, allowance));
+            store.holds(cut == (CUT, [of_log, allowance, 0, allowance]), "cut before the slot");
+            store.images = images;
+        }
+        let counts = store.add(&ticket);
+        store.holds(counts == [of_log + of_write, 1, 0, 3], "done");
+        store.finds(NO_CHIP, 7, bag as u16, [1, 9, 1], bag as u64 / 2 + 1);
+    }
+}
+
+/// "Under demand 3 a cut addition leaves the log as it was, whichever chip dies later." Bag 3 has its fourth ticket in
+/// page 3, and its fifth is not added.
+fn cut_addition(to: &mut Comparison) {
+    for allowance in 0..=3 {
+        let mut store = ComparedStore::new(to, bench_geometry());
+        for gross in 1..=4 {
+            store.add(&ticket(1, 3, 7, gross, 0));
+        }
+        let (status, _) = store.add_allowed(&ticket(1, 3, 7, 5, 0), allowance);
+        store.holds(status == if allowance < 3 { CUT } else { DONE }, "three stores");
+        let (gross, pages) = if allowance < 3 { (4, 4) } else { (5, 5) };
+        store.finds(NO_CHIP, 7, 3, [1, gross, 0], pages);
+        for chip in 0..=4 {
+            let own = store.images.chips.clone();
+            store.images.chips[chip * 16 * 24..][..16 * 24].fill(0xc3);
+            // The lost page of stripe 0 is three others; page 4 is alone in the partial parity of stripe 1.
+            let reads = match chip {
+                4 => pages,
+                0 => 3 + 3,
+                _ => pages - 1 + 3,
+            };
+            store.finds(chip as u64, 7, 3, [1, gross, 0], reads);
+            store.images.chips = own;
+        }
+    }
+}
+
+/// "Of tickets with one lot and bag, the latest in the log stands".
+fn latest_stands(to: &mut Comparison) {
+    let mut store = ComparedStore::new(to, bench_geometry());
+    store.finds(NO_CHIP, 7, 3, [0; 3], 0);
+    let steps = [
+        (ticket(1, 3, 7, 90, 9), [1, 90, 9]),
+        (ticket(1, 3, 8, 80, 8), [1, 90, 9]),
+        (ticket(1, 4, 7, 70, 7), [1, 90, 9]),
+        (ticket(1, 3, 7, 60, 6), [1, 60, 6]),
+        (ticket(2, 3, 7, 0, 0), [0, 0, 0]),
+        (ticket(2, 3, 8, 0, 0), [0, 0, 0]),
+        (ticket(1, 3, 7, 0, 0), [1, 0, 0]),
+    ];
+    for (reads, (ticket, found)) in (1..).zip(steps) {
+        store.add(&ticket);
+        store.finds(NO_CHIP, 7, 3, found, reads);
+    }
+    store.finds(NO_CHIP, 8, 3, [0; 3], 7);
+    store.finds(NO_CHIP, 7, 4, [1, 70, 7], 7);
+}
+
+/// "An empty ticket is all zero and can't be added; a withdrawal has both weights zero; tare is never above gross."
+fn breaking_tickets(to: &mut Comparison) {
+    let good = ticket(1, 3, 7, 5, 5);
+    let mut second_byte = good;
+    second_byte[1] = 1;
+    let bad = [
+        ticket(3, 3, 7, 5, 4),
+        second_byte,
+        ticket(2, 3, 7, 5, 0),
+        ticket(2, 3, 7, 0, 5),
+        ticket(1, 3, 7, 4, 5),
+    ];
+    for ticket in bad {
+        let mut store = ComparedStore::new(to, bench_geometry());
+        store.refuses(&ticket, 11, DONE);
+        store.add(&good);
+        store.write_bytes(1, &ticket);
+        store.refuses(&good, 11, 11);
+        store.refuses(&good[1..], 8, 11);
+    }
+    let mut store = ComparedStore::new(to, bench_geometry());
+    store.refuses(&[0; 16], 11, DONE);
+    store.refuses(&ticket(0, 3, 7, 5, 4), 11, DONE);
+}
+
+/// Four tickets fill the store: "an addition to a log that fills every page with 12".
+fn full_log(to: &mut Comparison) {
+    let mut store = ComparedStore::new(to, geometry(2, 3, 3, 2, 2));
+    for bag in 0..4 {
+        store.add(&ticket(1, bag, 7, 10 + bag, 1));
+    }
+    store.refuses(&ticket(1, 3, 7, 9, 9), 12, DONE);
+    store.finds(NO_CHIP, 7, 3, [1, 13, 1], 4);
+    store.refuses(&ticket(1, 3, 7, 8, 9), 11, DONE);
+    store.write_bytes(3, &ticket(1, 3, 7, 8, 9));
+    store.refuses(&ticket(1, 3, 7, 9, 9), 11, 11);
+    store.write_bytes(2, &ticket(0, 1, 1, 1, 1));
+    store.finds(NO_CHIP, 7, 3, [0; 3], 3);
+}
+
+/// "the log ends at the first of kind 0": it takes one ticket, and is 11 from then on.
+fn behind_the_end(to: &mut Comparison) {
+    let mut store = ComparedStore::new(to, Geometry { w: 48, ..bench_geometry() });
+    let (good, bad) = (ticket(1, 3, 7, 5, 5), ticket(9, 3, 7, 5, 5));
+    store.write_bytes(0, &[ticket(1, 3, 7, 8, 1), ticket(0, 3, 7, 9, 1), bad].concat());
+    store.finds(NO_CHIP, 7, 3, [1, 8, 1], 1);
+    let counts = store.add(&good);
+    store.holds(counts == [2, 1, 0, 3], "the page for the log, and for the partial parity");
+    store.refuses(&good, 11, 11);
+    let page = store.to.page(&mut store.random, store.g, &mut store.images, NO_CHIP, 0);
+    store.holds(page == [ticket(1, 3, 7, 8, 1), good, bad].concat(), "other bytes are kept");
 }

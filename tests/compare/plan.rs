@@ -1,18 +1,39 @@
-//! The list of a write, a commit or a collection, told in its parts: which part a cut fell in, and
-//! which points of the coverage the stores that were made have shown.
+//! The list of a write, an addition, a commit or a collection, told in its parts: which part a cut fell in, and which
+//! points of the coverage the stores that were made have shown.
 
 use crate::coverage::Coverage;
 use crate::generator::ALL;
+use crate::points::ADDITION;
 use crate::reference::*;
 use std::borrow::Cow;
 
-/// The calls that a commit and its collection, if any, belong to.
+/// What a commit and its collection, if any, are called where it is a call of its own.
 const OWN: [&str; 2] = ["commit", "collection of a commit"];
-const OF_A_WRITE: [&str; 2] = ["commit of a write", "collection of a write's commit"];
+
+/// Who writes a page, and what its collection, its commit and that one's collection are called.
+#[derive(Clone, Copy)]
+struct Writer {
+    name: &'static str,
+    collection: &'static str,
+    commit: [&'static str; 2],
+}
+
+const WRITE: Writer = Writer {
+    name: "write",
+    collection: "collection of a write",
+    commit: ["commit of a write", "collection of a write's commit"],
+};
+
+const ADD: Writer = Writer {
+    name: "addition",
+    collection: "collection of an addition",
+    commit: ["commit of an addition", "collection of an addition's commit"],
+};
 
 pub struct Plan {
     g: Geometry,
     pub shape: Shape,
+    writer: Writer,
     /// All stores so far.
     pub stores: u64,
     /// Each part's last store, whose part it is, and which.
@@ -31,11 +52,18 @@ struct Owed {
 impl Plan {
     fn new(g: Geometry) -> Plan {
         let shape = g.shape().expect("within the limits");
-        Plan { g, shape, stores: 0, parts: Vec::new(), shown: Vec::new() }
+        Plan { g, shape, writer: WRITE, stores: 0, parts: Vec::new(), shown: Vec::new() }
     }
 
     pub fn of_write(g: Geometry, images: &Images, page: u64) -> Plan {
         let mut plan = Plan::new(g);
+        plan.write(images, page as usize / plan.shape.n, page as usize % plan.shape.n);
+        plan
+    }
+
+    /// An addition to a page.
+    pub fn of_add(g: Geometry, images: &Images, page: u64) -> Plan {
+        let mut plan = Plan { writer: ADD, ..Plan::new(g) };
         plan.write(images, page as usize / plan.shape.n, page as usize % plan.shape.n);
         plan
     }
@@ -52,10 +80,18 @@ impl Plan {
         plan
     }
 
-    /// Counts the points that so many stores have shown, and the part that a cut fell in.
+    /// Counts the points that so many stores have shown, and the part that a cut fell in. An addition has a few points
+    /// of its own, called as those of a write, and counts for no others.
     pub fn note(&self, coverage: &mut Coverage, made: u64) {
         for (_, point) in self.shown.iter().filter(|(stores, _)| *stores <= made) {
-            coverage.hit(point);
+            match (self.writer.name, point.strip_prefix("write")) {
+                ("write", _) => coverage.hit(point),
+                (name, Some(rest)) => {
+                    let point = format!("{name}{rest}");
+                    coverage.hit_if(ADDITION.contains(&point.as_str()), &point);
+                }
+                _ => {}
+            }
         }
         if let Some((_, whose, part)) = self.parts.iter().find(|(last, _, _)| *last > made) {
             coverage.hit(&format!("{whose} cut {part}"));
@@ -64,7 +100,8 @@ impl Plan {
 
     pub fn commits_and_collects(&self) -> bool {
         let has = |whose: &str| self.parts.iter().any(|part| part.1 == whose);
-        has(OF_A_WRITE[0]) && (has(OF_A_WRITE[1]) || has("collection of a write"))
+        let Writer { collection, commit, .. } = self.writer;
+        has(commit[0]) && (has(commit[1]) || has(collection))
     }
 
     fn part(&mut self, whose: &'static str, part: &'static str, stores: usize) {
@@ -258,18 +295,18 @@ impl Plan {
         let owed = self.owed(&mut now, stripe, slots);
 
         let before = now.view(shape).record(stripe);
-        let (ways, collects) = self.place(&now, chip, "collection of a write");
+        let (ways, collects) = self.place(&now, chip, self.writer.collection);
         if collects {
             collect(g, now.to_mut(), NO_CHIP, chip as u64, ALL);
         }
         let record = now.view(shape).record(stripe);
-        self.part("write", "before the page", 1);
+        self.part(self.writer.name, "before the page", 1);
         self.shows_place("write", &ways);
         self.show_page(now.view(shape), stripe, chip);
-        self.part("write", "before the slot", 1);
+        self.part(self.writer.name, "before the slot", 1);
         let slot = now.view(shape).free_slot().expect("M + 1 slots, and at most M are named");
         self.show_slot(slot, &record);
-        self.part("write", "before the record", 1);
+        self.part(self.writer.name, "before the record", 1);
 
         self.show_record(&record, member);
         let own = record.slot != NO_SLOT && slots == shape.m;
@@ -303,7 +340,7 @@ impl Plan {
         }
         let cheapest = self.cheapest(view);
         let slot = view.record(cheapest).slot;
-        let collects = self.commit(now, cheapest, OF_A_WRITE);
+        let collects = self.commit(now, cheapest, self.writer.commit);
         commit(g, now.to_mut(), NO_CHIP, cheapest as u64, ALL);
         let moved = now.view(shape).record(stripe) != first;
         self.shows_if(moved, "write, its commit's collection moves a page of its stripe");

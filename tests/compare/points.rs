@@ -1,14 +1,19 @@
 //! The points that the calls must come by, as far as they are no cells of a table; `groups` has all of them.
 
 /// "Where a call is turned back": the calls with the numbers of their refusals.
-pub const TABLE: [(&str, &[u64]); 6] = [
+pub const TABLE: [(&str, &[u64]); 8] = [
     ("format", &[1, 2]),
     ("open", &[1, 2, 3, 4, 5]),
     ("read", &[1, 2, 3, 4, 5, 7, 8]),
     ("write", &[1, 2, 3, 4, 5, 6, 7, 8, 9]),
     ("commit", &[1, 2, 3, 4, 5, 6, 7, 9, 10]),
     ("collect", &[1, 2, 3, 4, 5, 6, 7, 9, 10]),
+    ("add", &[1, 2, 3, 4, 5, 6, 8, 9, 11, 12]),
+    ("find", &[1, 2, 3, 4, 5, 11]),
 ];
+
+/// The calls that make no store.
+pub const READING: [&str; 2] = ["read", "find"];
 
 /// The requests of the calls that have one: what it is, the highest number, and the number behind it.
 pub const REQUESTS: [(&str, &str, &str, &str); 4] = [
@@ -168,6 +173,116 @@ pub const COLLECTION: [&str; 22] = [
     "collection to a clean page that is not all 255",
 ];
 
+/// Of an addition's list, where a write has the same.
+pub const ADDITION: [&str; 16] = [
+    "addition, partial is the data",
+    "addition, partial xor data",
+    "addition, partial xor current page xor data",
+    "addition of a page without current number",
+    "addition of a page outside the partial parity, old becomes current",
+    "addition again under one partial parity, with an old page",
+    "addition again under one partial parity, without old page",
+    "addition into slot M",
+    "addition that only writes",
+    "addition that commits",
+    "addition that collects",
+    "addition that commits and collects for its page",
+    "addition that commits and collects for the parity page",
+    "addition that commits and collects for both pages",
+    "addition, its collection moves a page of its stripe",
+    "addition, its commit's collection moves a page of its stripe",
+];
+
+pub const ADD: [&str; 13] = [
+    "add at 65,535 pages to a chip",
+    "add of a weight",
+    "add of a withdrawal",
+    "add of a weight of 0 grams",
+    "add of a weight with tare equal to gross",
+    "add of a lot and a bag that have a ticket",
+    "add keeps the tickets before it in its page",
+    "add keeps the bytes behind it in its page",
+    "add over what stood behind a kind of 0",
+    "add that fills its page",
+    "add that fills the log",
+    "add to logical page 65,536 or above",
+    "add cut before its first store, with reads of the log",
+];
+
+/// Where the log ends, for an addition and for a question.
+pub const LOG_ENDS: [&str; 15] = [
+    "an empty log",
+    "a log that ends at a page border",
+    "a log that ends just before a page border",
+    "a log that ends just behind a page border",
+    "a log that ends in a page never written",
+    "a log that ends in a page never written, before a written one",
+    "a log that ends in a written page",
+    "a log that ends at a ticket of kind 0, not all zero",
+    "a log with a bad ticket behind its end, in its page",
+    "a log with a bad ticket behind its end, in the next page",
+    "a log that ends in the last page",
+    "a log with room for one ticket",
+    "a log of one ticket to a page",
+    "a log of 256 tickets to a page",
+    "a log of more than 65,536 pages",
+];
+
+pub const FIND: [&str; 34] = [
+    "find in phase 0",
+    "find in phase 1",
+    "find in phase 2",
+    "find with the collection's chip lost",
+    "find with the collection on another chip than the lost one",
+    "find with no chip lost",
+    "find with a chip lost, no ticket of the log on it",
+    "find through the partial parity and the full one",
+    "find over a log that fills every page",
+    "find over a log that fills every page, a chip lost",
+    "find, its log ends in a page never written, on the lost chip",
+    "find, a ticket of it behind the log's end",
+    "find none in an empty log",
+    "find none of a lot and a bag that are not there",
+    "find none of a lot that is not there, its bag is",
+    "find none of a bag that is not there, its lot is",
+    "find none of a lot and a bag that are there apart",
+    "find none, withdrawn",
+    "find none, a withdrawal alone",
+    "find a weight",
+    "find a weight, the only ticket of it",
+    "find a weight that replaced another",
+    "find a weight that replaced another, of an earlier page",
+    "find a weight after a withdrawal",
+    "find a weight, the first ticket of the log",
+    "find a weight, the last ticket of the log",
+    "find a weight of 0 grams",
+    "find a weight with tare equal to gross",
+    "find a weight of 2^31 grams or more",
+    "find a tare of 2^31 grams or more",
+    "find a weight, the bag of another lot behind it",
+    "find a weight, another bag of the lot behind it",
+    "find a weight, a lot alike in its lower half behind it",
+    "find a weight, a bag alike in its lower byte behind it",
+];
+
+/// The places of a ticket that breaks a rule, in the log of an addition and of a question.
+pub const BAD_PLACES: [&str; 6] = [
+    "bad ticket first of the log",
+    "bad ticket behind others of its page",
+    "bad ticket behind the first page",
+    "bad ticket last before the log's end",
+    "bad ticket in a log that fills every page",
+    "bad ticket last in a log that fills every page",
+];
+
+pub const LOG_REFUSALS: [&str; 5] = [
+    "bad ticket given, the log is full",
+    "bad ticket given, another one in the log",
+    "bad ticket in a page of the lost chip: find",
+    "log is full, one ticket to a page",
+    "log is full, more tickets to a page",
+];
+
 /// Where a place is found, for a write and for a commit.
 pub const PLACES: [&str; 8] = [
     "in a begun block",
@@ -181,8 +296,14 @@ pub const PLACES: [&str; 8] = [
 ];
 
 /// The collections of a call, each cut in each of its parts.
-pub const COLLECTIONS: [&str; 4] =
-    ["collect", "collection of a commit", "collection of a write", "collection of a write's commit"];
+pub const COLLECTIONS: [&str; 6] = [
+    "collect",
+    "collection of a commit",
+    "collection of a write",
+    "collection of a write's commit",
+    "collection of an addition",
+    "collection of an addition's commit",
+];
 
 pub const COLLECTION_PARTS: [&str; 6] = [
     "before phase 1",
@@ -193,7 +314,7 @@ pub const COLLECTION_PARTS: [&str; 6] = [
     "before phase 0",
 ];
 
-pub const CUTS: [&str; 7] = [
+pub const CUTS: [&str; 12] = [
     "write cut before the page",
     "write cut before the slot",
     "write cut before the record",
@@ -201,15 +322,26 @@ pub const CUTS: [&str; 7] = [
     "commit cut before the record",
     "commit of a write cut before the parity page",
     "commit of a write cut before the record",
+    "addition cut before the page",
+    "addition cut before the slot",
+    "addition cut before the record",
+    "commit of an addition cut before the parity page",
+    "commit of an addition cut before the record",
 ];
 
-pub const MADE_IMAGES: [&str; 22] = [
+pub const MADE_IMAGES: [&str; 28] = [
     "images by calls in phase 0",
     "images by calls in phase 1",
     "images by calls in phase 2",
     "images built in phase 0",
     "images built in phase 1",
     "images built in phase 2",
+    "images by additions in phase 0",
+    "images by additions in phase 1",
+    "images by additions in phase 2",
+    "images built in phase 0 with a log",
+    "images built in phase 1 with a log",
+    "images built in phase 2 with a log",
     "images garbage",
     "images garbage but sound",
     "images of 65,535 pages to a chip",
@@ -228,17 +360,19 @@ pub const MADE_IMAGES: [&str; 22] = [
     "damage on another chip than the lost one, refused",
 ];
 
-pub const ALLOWANCES: [&str; 7] = [
+pub const ALLOWANCES: [&str; 9] = [
     "every allowance: format",
     "every allowance: open",
     "every allowance: write",
     "every allowance: commit",
     "every allowance: collect",
+    "every allowance: add",
     "every allowance: write that commits and collects",
+    "every allowance: add that commits and collects",
     "every allowance: list of 100 stores or more",
 ];
 
-pub const LISTS: [&str; 21] = [
+pub const LISTS: [&str; 28] = [
     "list of 300 calls or more",
     "list with 50 collections or more",
     "list with 50 commits or more",
@@ -260,9 +394,16 @@ pub const LISTS: [&str; 21] = [
     "list with a chip taken, then written",
     "list with a chip taken, then every page read",
     "list with a chip taken in phase 1 or 2",
+    "list with a log that fills every page",
+    "list with a log that fills every page, more tickets to a page",
+    "list with 50 additions or more",
+    "list with an addition after a cut one",
+    "list with an addition refused after a cut",
+    "list with a chip taken, then added to",
+    "list with a chip taken, then asked",
 ];
 
-pub const BOOK: [&str; 16] = [
+pub const BOOK: [&str; 17] = [
     "book held with no chip lost",
     "book held with a chip filled with random bytes",
     "book held with a chip filled with 0",
@@ -275,13 +416,36 @@ pub const BOOK: [&str; 16] = [
     "book held after a cut commit",
     "book held after a cut collect",
     "book held after a cut open",
+    "book held after a cut add",
     "book held whole: every page, every chip, every filling, in phase 0",
     "book held whole: every page, every chip, every filling, in phase 1",
     "book held whole: every page, every chip, every filling, in phase 2",
     "book held in part, of a large store",
 ];
 
-pub const BUFFERS: [&str; 9] = [
+/// The answers to questions, held against the book's log.
+pub const LOG_HELD: [&str; 18] = [
+    "log held with no chip lost",
+    "log held with a chip filled with random bytes",
+    "log held with a chip filled with 0",
+    "log held with a chip filled with 255",
+    "log held with a chip with its own bytes",
+    "log held in phase 0",
+    "log held in phase 1",
+    "log held in phase 2",
+    "log held after a cut write",
+    "log held after a cut commit",
+    "log held after a cut collect",
+    "log held after a cut open",
+    "log held after a cut add",
+    "log held, a weight stands",
+    "log held, none stands",
+    "log held, refused 11",
+    "log held, it fills every page",
+    "log held of 100 tickets or more",
+];
+
+pub const BUFFERS: [&str; 11] = [
     "buffers that end at a guard page",
     "buffers that begin at a guard page",
     "buffers at any byte",
@@ -291,4 +455,6 @@ pub const BUFFERS: [&str; 9] = [
     "buffers that write may only read, sealed",
     "buffers that commit may only read, sealed",
     "buffers that collect may only read, sealed",
+    "buffers that add may only read, sealed",
+    "buffers that find may only read, sealed",
 ];

@@ -2,8 +2,10 @@
 
 use crate::calls::Call;
 use crate::generator::ALL;
+use crate::logs::log_of;
 use crate::random::Random;
 use crate::reference::{Geometry, Images, Shape, View, NONE, NO_CHIP, NO_SLOT, RECORD_BYTES};
+use crate::tickets::{any_ticket, lot_and_bag, ticket_page};
 
 /// Mostly the chip that is lost in this case; else any number.
 pub fn any_lost(random: &mut Random, shape: Shape, lost: u64) -> u64 {
@@ -96,11 +98,12 @@ fn any_bytes(random: &mut Random, shape: Shape) -> Vec<u8> {
     }
 }
 
-/// W bytes: mostly random, at times zeros as of a page never written, or 255s as of a clean one.
+/// W bytes: mostly random, at times tickets, zeros as of a page never written, or 255s as of a clean one.
 pub fn any_data(random: &mut Random, shape: Shape) -> Vec<u8> {
     match random.below(16) {
         0 => vec![0; shape.w],
         1 => vec![255; shape.w],
+        2 | 3 => ticket_page(random, shape.w),
         _ => random.bytes(shape.w),
     }
 }
@@ -120,17 +123,24 @@ fn any_allowance(random: &mut Random, length: u64, marks: &[u64]) -> u64 {
     }
 }
 
-/// A write, commit or collection with all that it may store.
+/// A write, commit, collection or addition with all that it may store.
 pub fn any_storing(random: &mut Random, images: &Images, shape: Shape, lost: u64) -> Call {
     let allowance = ALL;
-    match random.below(8) {
+    match random.below(9) {
         0 | 1 => Call::Commit { lost, stripe: any_stripe(random, images.view(shape)), allowance },
         2 | 3 => Call::Collect { lost, chip: any_chip(random, shape), allowance },
+        4 => Call::Add { lost, ticket: any_ticket(random), allowance },
         _ => {
             let page = any_page(random, shape, lost);
             Call::Write { lost, page, data: any_bytes(random, shape), allowance }
         }
     }
+}
+
+/// A question, mostly for a lot and a bag that have a ticket. The images are sound.
+pub fn any_question(random: &mut Random, shape: Shape, images: &Images, lost: u64) -> Call {
+    let (lot, bag) = log_of(images.view(shape)).any_bag(random);
+    Call::Find { lost, lot, bag }
 }
 
 /// The call with any allowance.
@@ -157,6 +167,11 @@ pub fn any_call(random: &mut Random, g: Geometry, shape: Shape, images: &Images,
             let lost = any_lost(random, shape, lost);
             let call = any_storing(random, images, shape, lost);
             limited(random, g, images, call)
+        }
+        11 => {
+            let lost = any_lost(random, shape, lost);
+            let (lot, bag) = lot_and_bag(random);
+            Call::Find { lost, lot, bag }
         }
         _ => {
             let mut lost = any_lost(random, shape, lost);

@@ -2,6 +2,7 @@
 
 use rules::Answer;
 use rules::Refusal;
+use rules::Standing;
 use steps::Counts;
 use steps::Progress;
 ghost use mathlib.Core.Path.{_≡_};
@@ -9,7 +10,7 @@ ghost use Rattle.rules.specs.Refusals.{refusalNumber};
 ghost use mathlib.Core.Bool.{cond};
 ghost use Rattle.steps.specs.Steps.{noCounts};
 ghost use Rattle.rules.specs.declared.Answer.the-variants.{Cut, Done};
-ghost use Rattle.answers.specs.Reports.{reportOf};
+ghost use Rattle.answers.specs.Reports.{reportOf, standingReportOf};
 
 // 0 for done, 255 for cut, or the number of the refusal; and the counts.
 #[repr(C)]
@@ -19,6 +20,19 @@ pub struct Report {
     pub programs: u64,
     pub erases: u64,
     pub stores: u64,
+}
+
+// The same of a question; then 1 where a weight stands, and its grams, else zeros.
+#[repr(C)]
+pub struct FindReport {
+    pub status: u64,
+    pub reads: u64,
+    pub programs: u64,
+    pub erases: u64,
+    pub stores: u64,
+    pub standing: u64,
+    pub gross: u64,
+    pub tare: u64,
 }
 
 // The number of a refusal in the table.
@@ -36,6 +50,8 @@ pub fn refusal_number(r: Refusal) -> u64
         Refusal::Data => 8,
         Refusal::ChipSet => 9,
         Refusal::Work => 10,
+        Refusal::Tickets => 11,
+        Refusal::FullLog => 12,
     }
 }
 
@@ -74,5 +90,29 @@ pub fn without_counts(r: Refusal) -> Report
         programs: 0,
         erases: 0,
         stores: 0,
+    }
+}
+
+// A report of the answer of a question.
+pub fn with_standing(status: u64, counts: Counts, x: Standing) -> FindReport
+    ensures { λ r. ⌜ r ≡ standingReportOf status counts x ⌝ }
+{
+    let mut standing = 0;
+    let mut gross = 0;
+    let mut tare = 0;
+    if let Standing::Weighed(w) = x {
+        standing = 1;
+        gross = w.gross as u64;
+        tare = w.tare as u64;
+    }
+    FindReport {
+        status,
+        reads: counts.reads,
+        programs: counts.programs,
+        erases: counts.erases,
+        stores: counts.stores,
+        standing,
+        gross,
+        tare,
     }
 }

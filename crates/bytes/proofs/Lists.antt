@@ -98,3 +98,13 @@ number-two xs a h =
     let p : a < length xs = omega arith in
     let q : suc a < length xs = omega arith in
     rw (add-one, drop-cons xs a 0, drop-cons xs (suc a) 0) (omega arith)
+
+pub number-four : (xs : List ℕ) (a : ℕ) → a + 4 ≤ length xs → number (part a 4 xs) ≡ number (part a 2 xs) + 65536 * number (part (a + 2) 2 xs)
+unfolding number part
+number-four xs a h =
+    let p : a < length xs = omega arith in
+    let q : suc a < length xs = omega arith in
+    let r : suc (suc a) < length xs = omega arith in
+    let s : suc (suc (suc a)) < length xs = omega arith in
+    let two : a + 2 ≡ suc (suc a) = omega arith in
+    rw (two, drop-cons xs a 0, drop-cons xs (suc a) 0, drop-cons xs (suc (suc a)) 0, drop-cons xs (suc (suc (suc a))) 0) (omega arith)

@@ -31,6 +31,14 @@ pub fn number_at(s: &[u8], a: usize) -> usize
     byte(s, a) + 256 * byte(s, a + 1)
 }
 
+// The number that the four bytes at offset a hold.
+pub fn number_of_four(s: &[u8], a: usize) -> usize
+    requires { ⌜ a + 4 ≤ length (now s) ⌝ }
+    ensures { λ r. ⌜ (r ≡ number (part a 4 (now (s .entry)))) × (r < 4294967296) ⌝ }
+{
+    number_at(s, a) + 65536 * number_at(s, a + 2)
+}
+
 // Whether all bytes are 0.
 pub fn zeros(s: &[u8]) -> bool
     ensures { λ r. ⌜ r ≡ eqb (number (now (s .entry))) 0 ⌝ }

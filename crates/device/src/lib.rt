@@ -18,7 +18,7 @@ ghost use Prim.Native.Nat.{ℕ, _+_, _-_, _^_, _≤_, _<_, min};
 ghost use lib.ListN.{length};
 ghost use Rattle.layout.specs.Layout.{layoutOf, pages};
 ghost use Rattle.steps.specs.Store.{program as programStore, erase as eraseStore, slot as slotStore, stripe, collection};
-ghost use Rattle.steps.specs.Steps.{plain, noCounts};
+ghost use Rattle.steps.specs.Steps.{plain, noCounts, reading};
 ghost use Rattle.codec.specs.Fit.{ChipsFit, RecordsFit, SlotsFit};
 ghost use Rattle.codec.specs.Views.{recordFrom, collectionFrom, pageFrom, SmallRecord, SmallSpare};
 ghost use Rattle.steps.specs.Allowance.{mostReads, started, countingAll, Sane, Ran, images};
@@ -26,14 +26,15 @@ ghost use Rattle.steps.specs.Allowance.{mostReads, started, countingAll, Sane, 
 // 2^59: no list has as many, and eight reads for each of them still fit a counter.
 const MOST_STORES: u64 = 576460752303423488;
 
-// At the beginning of a call. An allowance larger than any list is as good as the most.
-pub fn start(allowance: u64) -> Progress
-    ensures { λ r. ⌜ (r ≡ started noCounts (min allowance (2 ^ 59))) × Sane r ⌝ }
+// Before the first store of a call that has read so many pages. An allowance larger than any list is as good as the most.
+pub fn start_after(reads: u64, allowance: u64) -> Progress
+    requires { ⌜ reads < 2 ^ 62 ⌝ }
+    ensures { λ r. ⌜ (r ≡ started (reading reads) (min allowance (2 ^ 59))) × Sane r ⌝ }
 {
     let left = lesser(allowance, MOST_STORES);
     Progress {
         counts: Counts {
-            reads: 0,
+            reads,
             programs: 0,
             erases: 0,
             stores: 0,
@@ -41,6 +42,13 @@ pub fn start(allowance: u64) -> Progress
         left,
         cut: false,
     }
+}
+
+// The same of a call that has read none.
+pub fn start(allowance: u64) -> Progress
+    ensures { λ r. ⌜ (r ≡ started noCounts (min allowance (2 ^ 59))) × Sane r ⌝ }
+{
+    start_after(0, allowance)
 }
 
 // A store is due, and nothing is left of the allowance.

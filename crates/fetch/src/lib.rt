@@ -320,7 +320,27 @@ pub fn fetch_page(
     )
 }
 
-// The buffer becomes member m of stripe j. On the lost chip it is gathered in a work page.
+// The buffer becomes member m of stripe j.
+pub fn fetch_member(
+    buffer: &mut [u8],
+    chips: &[u8],
+    records: &[u8],
+    slots: &[u8],
+    g: Geometry,
+    lost: usize,
+    j: usize,
+    m: usize,
+) -> Got
+    requires { ⌜ ChipsFit g (now chips) × RecordsFit g (now records) × SlotsFit g (now slots) × (length (now buffer) ≡ g .w) × (j < g .s) × (m < g .n)
+        × (recordSound (layoutOf g) (recordAt (layoutOf g) (now records) j) ≡ true) ⌝ }
+    ensures { λ r. ⌜ (record { bytes = now (buffer .exit); reads = r .reads; origin = r .origin }
+        ≡ fetchMember (layoutOf g) (images (now (chips .entry)) (now (records .entry)) (now (slots .entry))) lost j m)
+        × (r .reads ≤ 7) ⌝ }
+{
+    fetch_page(buffer, chips, records, slots, g, lost, j, Role::Current(m))
+}
+
+// The same for a read: on the lost chip it is gathered in a work page.
 pub fn read_member(
     buffer: &mut [u8],
     chips: &[u8],
@@ -337,20 +357,11 @@ pub fn read_member(
         ≡ fetchMember (layoutOf g) (images (now (chips .entry)) (now (records .entry)) (now (slots .entry))) lost j m ⌝ }
 {
     if member_chip(g, j, m) != lost {
-        return fetch_page(buffer, chips, records, slots, g, lost, j, Role::Current(m));
+        return fetch_member(buffer, chips, records, slots, g, lost, j, m);
     }
     let mut work = [0u8; 4096];
     let w = g.w as usize;
-    let got = fetch_page(
-        &mut work[0..w],
-        chips,
-        records,
-        slots,
-        g,
-        lost,
-        j,
-        Role::Current(m),
-    );
+    let got = fetch_member(&mut work[0..w], chips, records, slots, g, lost, j, m);
     copy(buffer, &work[0..w]);
     got
 }

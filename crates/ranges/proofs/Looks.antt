@@ -9,7 +9,7 @@ use mathlib.Core.Bool.{Bool, true, false, true≢false, and-eq-true-iff, and-tru
 use borrow.Author.Tests.{lt-ltb, le-ltb}
 use Rattle.ranges.specs.declared.Found.{Found}
 use Rattle.ranges.specs.declared.Found.the-variants.{At, Nothing}
-use Rattle.ranges.specs.Look.{allBelow, someBelow, firstBelow, leastBelow, whenFound}
+use Rattle.ranges.specs.Look.{allBelow, someBelow, firstBelow, lastBelow, leastBelow, whenFound}
 
 -- cases: of a test, of the last number below suc n, of an order, of two numbers, of an answer
 pub by-test {ℓ} : {P : Type ℓ} (b : Bool) → (b ≡ true → P) → (b ≡ false → P) → P
@@ -220,3 +220,30 @@ least-at (suc n) f m i e = least-step n f m (least-at n f m) i e
 
 pub least-found : (n : ℕ) (f : ℕ → Bool) (m : ℕ → ℕ) (i : ℕ) → i < n → f i ≡ true → (k : ℕ) × (leastBelow n f m ≡ At k)
 least-found n f m i h t = by-found (leastBelow n f m) (λ k q. (k, q)) (λ q. both (f i) t (least-nothing n f m q i h))
+
+-- last: the next number, what the answer tells, and the same tests
+pub last-here : (n : ℕ) (f : ℕ → Bool) → f n ≡ true → lastBelow (suc n) f ≡ At n
+unfolding lastBelow
+last-here n f t = rw t
+
+pub last-skips : (n : ℕ) (f : ℕ → Bool) → f n ≡ false → lastBelow (suc n) f ≡ lastBelow n f
+unfolding lastBelow
+last-skips n f t = rw t
+
+pub last-at : (n : ℕ) (f : ℕ → Bool) (i : ℕ) → lastBelow n f ≡ At i → i < n
+unfolding lastBelow
+last-at zero f i e = not-found i e
+last-at (suc n) f i e = by-test (f n)
+    (λ t. let r : n ≡ i = cc (last-here n f t) in rw (← r) (lt-suc-self n))
+    (λ t. le-step (last-at n f i (sym (last-skips n f t) ∙ e)))
+
+pub last-cong : (n : ℕ) (f g : ℕ → Bool) → ((i : ℕ) → i < n → f i ≡ g i) → lastBelow n f ≡ lastBelow n g
+unfolding lastBelow
+last-cong zero f g h = refl
+last-cong (suc n) f g h = rw (last-cong n f g (λ i b. h i (le-step b)), h n (lt-suc-self n))
+
+-- an answer that makes no difference
+pub when-same : {A : Type 0} (r : Found) (x : A) → whenFound r (λ i. x) x ≡ x
+unfolding whenFound
+when-same (At i) x = refl
+when-same Nothing x = refl

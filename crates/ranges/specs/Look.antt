@@ -38,6 +38,11 @@ unfoldable pub firstBelow : ℕ → (ℕ → Bool) → Found
 firstBelow zero f = Nothing
 firstBelow (suc n) f = orElse (firstBelow n f) (cond (f n) (At n) Nothing)
 
+-- the highest number below n that passes f
+unfoldable pub lastBelow : ℕ → (ℕ → Bool) → Found
+lastBelow zero f = Nothing
+lastBelow (suc n) f = cond (f n) (At n) (lastBelow n f)
+
 -- of the best so far and n: n where it is strictly better, so that the lowest stands on ties
 abbrev pub better : (ℕ → ℕ) → Found → ℕ → Found
 better measure (At i) n = cond (ltb (measure n) (measure i)) (At n) (At i)

@@ -3,9 +3,11 @@ pub mod Carries
 pub mod CommitRecord
 pub mod Contents
 pub mod Feeds
+pub mod Log
 pub mod Costs
 pub mod Entries
 pub mod NewRecord
+pub mod NewTicket
 pub mod Parity
 pub mod Rebuild
 pub mod WriteRecord

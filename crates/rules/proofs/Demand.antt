@@ -3,3 +3,4 @@ pub mod Alive
 pub mod Events
 pub mod Invariant
 pub mod Taken
+pub mod Tickets

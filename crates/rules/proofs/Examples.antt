@@ -3,4 +3,5 @@ pub mod Cases
 pub mod Compute
 pub mod FirstWrite
 pub mod Rows
+pub mod Tickets
 pub mod Turned

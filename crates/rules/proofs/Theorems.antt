@@ -20,14 +20,14 @@ use Rattle.layout.specs.Collection.{Collection, collectionAt}
 use Rattle.layout.specs.Images.{Images, lengths}
 use Rattle.layout.proofs.Limits.{Within, within}
 use Rattle.steps.specs.declared.Counts.{Counts}
-use Rattle.steps.specs.Steps.{noCounts, made, isCut, applyAll}
-use Rattle.steps.proofs.Prefixes.{EndsIn, Every, every-nil}
+use Rattle.steps.specs.Steps.{Step, noCounts, made, isCut, applyAll, reading}
+use Rattle.steps.proofs.Prefixes.{EndsIn, Every, every-nil, Closes}
 use Rattle.rules.specs.declared.Check.{Check}
 use Rattle.rules.specs.declared.Check.the-variants.{Passed, Failed}
 use Rattle.rules.specs.declared.Reading.the-variants.{Done as ReadDone}
 use Rattle.rules.specs.Blocks.{lowestCleanBlock}
 use Rattle.rules.specs.Sound.{recordsSound, chipSound, isLost}
-use Rattle.rules.specs.Refusals.{checked, recordsCheck, sparesCheck, imagesRows, writeRows, commitRows, collectRows}
+use Rattle.rules.specs.Refusals.{checked, recordsCheck, sparesCheck, imagesRows, writeRows, commitRows, collectRows, addRows}
 use Rattle.rules.specs.Format.{formatSteps}
 use Rattle.rules.specs.Open.{openSteps}
 use Rattle.rules.specs.Collect.{victimOf, collectSteps}
@@ -37,24 +37,27 @@ use Rattle.rules.specs.Commit.{commitSteps}
 use Rattle.rules.specs.Partial.{lowestFreeSlot}
 use Rattle.rules.specs.Write.{commitOwed, writeSteps}
 use Rattle.rules.specs.Read.{fetch}
-use Rattle.rules.specs.Calls.{ReadOutcome, Verdict, done, cut, refused, verdict, run, outcome, formatCall, readCall, writeCall}
+use Rattle.rules.specs.Tickets.{ticketBytes, ticketOf, ticketSound}
+use Rattle.rules.specs.Log.{fallsIn, logEnd, logSound, withTicket, contents, logReads, addSteps}
+use Rattle.rules.specs.Calls.{ReadOutcome, Verdict, done, cut, refused, verdict, run, outcome, formatCall, readCall, writeCall, addCall}
 use Rattle.rules.specs.Demand.{Demand3}
 use Rattle.rules.proofs.Soundness.Statements.{Usable, RecordsSound, ChipSound, SoundBut, Sound, sound-chip, rest-collects}
 use Rattle.rules.proofs.Soundness.Checks.{lengths-are, images-sound, lengths-pass, records-check-pass, spares-check-pass}
-use Rattle.rules.proofs.Soundness.Accepted.{images-accepted, read-passes, WriteAccepted, write-accepted, write-passes, commit-accepted, collect-accepted}
+use Rattle.rules.proofs.Soundness.Accepted.{images-accepted, read-passes, WriteAccepted, write-accepted, write-passes, add-accepted, add-passes, commit-accepted, collect-accepted}
 use Rattle.rules.proofs.Soundness.RecordChecks.{records-sound, records-pass}
 use Rattle.rules.proofs.Soundness.ChipChecks.{chip-sound, chip-pass}
-use Rattle.rules.proofs.Data.Carries.{Wrote}
+use Rattle.rules.proofs.Data.Carries.{Carries, Wrote}
 use Rattle.rules.proofs.Space.Room.{victim-found, free-slot, stripe-to-commit}
 use Rattle.rules.proofs.Lists.Fresh.{formatted, format-finishes}
 use Rattle.rules.proofs.Lists.Collecting.{destination, collect-leads}
-use Rattle.rules.proofs.Lists.EachCall.{open-lost, open-every, collect-every, commit-every, write-ends, write-every}
+use Rattle.rules.proofs.Lists.EachCall.{open-lost, open-every, collect-every, commit-every, write-ends, write-every, add-writes, add-ends, add-every}
 use Rattle.rules.proofs.Lists.CutRule.{verdictNumber, CutRules, cut-rules}
 use Rattle.rules.proofs.Lists.FreshSound.{fresh-sound}
 use Rattle.rules.proofs.Lists.Committing.{StoresRecord, Committed, commit-closes}
 use Rattle.rules.proofs.Lists.Writing.{write-closes}
 use Rattle.rules.proofs.Demand.Invariant.{no-copies-at-rest}
 use Rattle.rules.proofs.Demand.Events.{demand-3}
+use Rattle.rules.proofs.Demand.Tickets.{TicketsKept, tickets-kept}
 
 module _ (l : Layout) where
   open Layout l using (N, W, S)
@@ -73,6 +76,7 @@ module _ (l : Layout) where
     pub write : (s : Images) (lost page : ℕ) (xs : List ℕ) → checked (writeRows l s lost page xs) ≡ Passed → Every l (Sound l) (writeSteps l page xs s) s
     pub commit : (s : Images) (lost j : ℕ) → checked (commitRows l s lost j) ≡ Passed → Every l (Sound l) (commitSteps l j s) s
     pub collect : (s : Images) (lost c : ℕ) → checked (collectRows l s lost c) ≡ Passed → Every l (Sound l) (collectSteps l c s) s
+    pub add : (s : Images) (lost : ℕ) (ticket : List ℕ) → checked (addRows l s lost ticket) ≡ Passed → Every l (Sound l) (addSteps l lost ticket s) s
 
   -- Room: in sound images at rest nothing is looked for in vain.
   pub record RoomIn (s : Images) : Type 0 where
@@ -84,6 +88,9 @@ module _ (l : Layout) where
     pub stripe : (j : ℕ) → commitOwed l (recordAt l (s .records)) j ≡ true → (k : ℕ) × (cheapest l (recordAt l (s .records)) ≡ At k)
     -- "No write is refused for want of space."
     pub accepted : (page : ℕ) (xs : List ℕ) → page < N * S → length xs ≡ W → checked (writeRows l s noChip page xs) ≡ Passed
+    -- nor an addition, where the ticket and the log are sound and the log has an end
+    pub adds-accepted : (ticket : List ℕ) → length ticket ≡ ticketBytes → ticketSound (ticketOf ticket) ≡ true → logSound l (contents l s noChip) ≡ true
+        → (t : ℕ) → logEnd l (contents l s noChip) ≡ At t → checked (addRows l s noChip ticket) ≡ Passed
     -- no list stops short: that of a write and that of a commit end in the record that they are for
     pub writes : (page : ℕ) (xs : List ℕ) → page < N * S → length xs ≡ W
         → EndsIn (StoresRecord (stripeOf l page)) (writeSteps l page xs s) × Wrote l page xs s (applyAll l (writeSteps l page xs s) s)
@@ -123,8 +130,12 @@ module _ (l : Layout) where
     pub room : limits l ≡ true → (s : Images) → Sound l s → collectionAt l (s .records) .phase ≡ 0 → RoomIn s
     pub reading-back : (s : Images) (lost page : ℕ) (xs : List ℕ) (a : ℕ)
         → ReadsBack s page xs (verdict (writeCall l s lost page xs a .answer)) (writeCall l s lost page xs a .images)
+    -- an addition is read back as the write of the page that it falls in
+    pub adding-back : (s : Images) (lost : ℕ) (ticket : List ℕ) (a t : ℕ) → logEnd l (contents l s lost) ≡ At t
+        → ReadsBack s (fallsIn l t) (withTicket l (contents l s lost) ticket t) (verdict (addCall l s lost ticket a .answer)) (addCall l s lost ticket a .images)
     pub cut-rule : CutRules l
     pub demand-3 : Demand3 l
+    pub tickets : TicketsKept l
     -- demand 3 has something to start from, in every geometry within the limits
     pub starts : limits l ≡ true → (s : Images) → lengths l s ≡ true → (a : ℕ) → length (formatSteps l) ≤ a
         → verdict (formatCall l s a .answer) ≡ done
@@ -156,6 +167,8 @@ module _ (l : Layout) (some : 1 ≤ l .D) (narrow : l .D ≤ 4) where
         let o = commit-accepted l s lost j passed .1 in commit-every l (usable (o .settled .within)) s j o k .sound;
     collect = λ s lost c passed k.
         let o = collect-accepted l s lost c passed .1 in collect-every l (usable (o .settled .within)) s c o k .sound;
+    add = λ s lost ticket passed.
+        let o = add-accepted l s lost ticket passed .1 in add-every l (usable (o .settled .within)) s lost ticket passed;
   }
 
   pub room-in : Within l → (s : Images) → Sound l s → collectionAt l (s .records) .phase ≡ 0 → RoomIn l s
@@ -172,6 +185,8 @@ module _ (l : Layout) (some : 1 ≤ l .D) (narrow : l .D ≤ 4) where
     stripe = λ j owed. let least = stripe-to-commit l w (recordAt l (s .records)) j owed in (least .0, least .1);
     accepted = λ page xs inside whole.
         write-passes l s page xs (record { settled = record { within = w; sound = f; at-rest = rest }; page = inside; whole = whole });
+    adds-accepted = λ ticket whole sound log t end.
+        add-passes l s ticket (record { settled = record { within = w; sound = f; at-rest = rest }; whole = whole; sound = sound; log = log; end = (t, end) });
     writes = λ page xs inside whole. let c = write-closes l (usable w) page inside xs whole s f rest in (c .last, c .whole);
     commits = λ j fits has. let c = commit-closes l (usable w) j fits s f rest has in (c .last, c .whole);
   }
@@ -195,21 +210,22 @@ module _ (l : Layout) (some : 1 ≤ l .D) (narrow : l .D ≤ 4) where
       cut-short = λ e. absurd (omega (arith, ap verdictNumber e));
     }
 
-    module _ (o : WriteAccepted l s page xs) where
-      cut-back : (a : ℕ) → a < length (writeSteps l page xs s) → ReadsBack l s page xs cut (applyAll l (made a (writeSteps l page xs s)) s)
+    -- a list that is that of a write
+    module _ (o : WriteAccepted l s page xs) (L : Step → Type 0) (list : List Step) (h : Closes l (Carries l) (Wrote l page xs) L list s) where
+      cut-back : (a : ℕ) → a < length list → ReadsBack l s page xs cut (applyAll l (made a list) s)
       cut-back a less =
-          let c = write-ends l (usable (o .settled .within)) s page xs o .cut a less in
+          let c = h .cut a less in
           record {
             here = λ e. absurd (omega (arith, ap verdictNumber e));
             elsewhere = λ e. absurd (omega (arith, ap verdictNumber e));
             cut-short = λ e i inside.
-                read-as (o .settled .within) s (applyAll l (made a (writeSteps l page xs s)) s) (o .settled .sound) (c .sound) i inside (c .reads (no-copies-at-rest l s (o .settled .at-rest)) i inside);
+                read-as (o .settled .within) s (applyAll l (made a list) s) (o .settled .sound) (c .sound) i inside (c .reads (no-copies-at-rest l s (o .settled .at-rest)) i inside);
           }
 
-      done-back : ReadsBack l s page xs done (applyAll l (writeSteps l page xs s) s)
+      done-back : ReadsBack l s page xs done (applyAll l list s)
       done-back =
-          let t = applyAll l (writeSteps l page xs s) s in
-          let w = write-ends l (usable (o .settled .within)) s page xs o .whole in
+          let t = applyAll l list s in
+          let w = h .whole in
           record {
             here = λ e. rw (w .here) at (sound-reads (o .settled .within) t (w .sound) page (o .page));
             elsewhere = λ e i inside other.
@@ -217,19 +233,34 @@ module _ (l : Layout) (some : 1 ≤ l .D) (narrow : l .D ≤ 4) where
             cut-short = λ e. absurd (omega (arith, ap verdictNumber e));
           }
 
-    reads-back-by : (check : Check) (a : ℕ) → (check ≡ Passed → WriteAccepted l s page xs)
-        → ReadsBack l s page xs (verdict (outcome l check noCounts a (writeSteps l page xs) s .answer)) (outcome l check noCounts a (writeSteps l page xs) s .images)
+    reads-back-by : (L : Step → Type 0) (check : Check) (n : Counts) (a : ℕ) (steps : Images → List Step)
+        → (check ≡ Passed → WriteAccepted l s page xs × Closes l (Carries l) (Wrote l page xs) L (steps s) s)
+        → ReadsBack l s page xs (verdict (outcome l check n a steps s .answer)) (outcome l check n a steps s .images)
     unfolding run
-    reads-back-by Passed a o = by-test (isCut a (writeSteps l page xs s))
-        (λ e. rw e (cut-back (o refl) a (ltb-true a (length (writeSteps l page xs s)) e)))
-        (λ e. rw (e, take-all a (writeSteps l page xs s) (ltb-false a (length (writeSteps l page xs s)) e)) (done-back (o refl)))
-    reads-back-by (Failed r) a o = refused-back
+    reads-back-by L Passed n a steps h =
+        let (o, ends) = h refl in
+        by-test (isCut a (steps s))
+        (λ e. rw e (cut-back o L (steps s) ends a (ltb-true a (length (steps s)) e)))
+        (λ e. rw (e, take-all a (steps s) (ltb-false a (length (steps s)) e)) (done-back o L (steps s) ends))
+    reads-back-by L (Failed r) n a steps h = refused-back
 
   -- from any sound images: a write that is not refused has been given some
   pub reads-back : (s : Images) (lost page : ℕ) (xs : List ℕ) (a : ℕ)
       → ReadsBack l s page xs (verdict (writeCall l s lost page xs a .answer)) (writeCall l s lost page xs a .images)
   unfolding writeCall
-  reads-back s lost page xs a = reads-back-by s page xs (checked (writeRows l s lost page xs)) a (λ passed. write-accepted l s lost page xs passed .1)
+  reads-back s lost page xs a =
+      reads-back-by s page xs (StoresRecord (stripeOf l page)) (checked (writeRows l s lost page xs)) noCounts a (writeSteps l page xs)
+      (λ passed. let o = write-accepted l s lost page xs passed .1 in (o, write-ends l (usable (o .settled .within)) s page xs o))
+
+  pub adds-back : (s : Images) (lost : ℕ) (ticket : List ℕ) (a t : ℕ) → logEnd l (contents l s lost) ≡ At t
+      → ReadsBack l s (fallsIn l t) (withTicket l (contents l s lost) ticket t) (verdict (addCall l s lost ticket a .answer)) (addCall l s lost ticket a .images)
+  unfolding addCall
+  adds-back s lost ticket a t end =
+      reads-back-by s (fallsIn l t) (withTicket l (contents l s lost) ticket t) (StoresRecord (stripeOf l (fallsIn l t))) (checked (addRows l s lost ticket))
+      (reading (logReads l s lost)) a (addSteps l lost ticket)
+      (λ passed.
+      let o = add-writes l s lost ticket passed t end in
+      (o, add-ends l (usable (o .settled .within)) s lost ticket passed t end))
 
   pub argument-of : Argument l
   argument-of = record {
@@ -237,8 +268,10 @@ module _ (l : Layout) (some : 1 ≤ l .D) (narrow : l .D ≤ 4) where
     soundness = soundness-kept;
     room = λ fit. room-in (within l fit);
     reading-back = reads-back;
+    adding-back = adds-back;
     cut-rule = cut-rules l;
     demand-3 = demand-3 l some narrow;
+    tickets = tickets-kept l some narrow;
     starts = λ fit s long a enough. format-finishes l s a fit long enough;
   }
 

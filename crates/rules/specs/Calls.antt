@@ -5,14 +5,18 @@ use mathlib.Core.List.{List}
 use Rattle.layout.specs.Layout.{Layout}
 use Rattle.layout.specs.Images.{Images}
 use Rattle.steps.specs.declared.Counts.{Counts}
-use Rattle.steps.specs.Steps.{Step, made, isCut, noCounts, countedAll, applyAll}
+use Rattle.steps.specs.Steps.{Step, made, isCut, noCounts, reading, countedAll, applyAll}
 use Rattle.rules.specs.declared.Check.{Check}
 use Rattle.rules.specs.declared.Check.the-variants.{Passed, Failed}
 use Rattle.rules.specs.declared.Answer.{Answer}
 use Rattle.rules.specs.declared.Answer.the-variants.{Done, Cut, Refused}
 use Rattle.rules.specs.declared.Reading.{Reading}
 use Rattle.rules.specs.declared.Reading.the-variants.{Done as ReadDone, Refused as ReadRefused}
-use Rattle.rules.specs.Refusals.{Row, refusalNumber, checked, buffersRows, imagesRows, readRows, writeRows, commitRows, collectRows}
+use Rattle.rules.specs.declared.Standing.{Standing}
+use Rattle.rules.specs.declared.Standing.the-variants.{Nothing}
+use Rattle.rules.specs.declared.Finding.{Finding}
+use Rattle.rules.specs.declared.Finding.the-variants.{Done as FindDone, Refused as FindRefused}
+use Rattle.rules.specs.Refusals.{Row, refusalNumber, checked, buffersRows, imagesRows, readRows, writeRows, commitRows, collectRows, findRows, addRows}
 use Rattle.rules.specs.Open.{openSteps}
 use Rattle.rules.specs.Collect.{collectSteps}
 use Rattle.rules.specs.Commit.{commitSteps}
@@ -20,6 +24,7 @@ use Rattle.rules.specs.Write.{writeSteps}
 use Rattle.rules.specs.Fetch.{Fetched}
 use Rattle.rules.specs.Read.{fetch}
 use Rattle.rules.specs.Format.{formatSteps}
+use Rattle.rules.specs.Log.{contents, logReads, standing, addSteps}
 
 -- the answer of a call that stores, and every byte of the images after it
 pub record Outcome : Type 0 where
@@ -53,10 +58,24 @@ abbrev pub readCountsOf : Reading → Counts
 readCountsOf (ReadDone n) = n
 readCountsOf (ReadRefused r) = noCounts
 
--- a read that is done: "pages read", and what they gave
+-- the same of a question
+abbrev pub findStatusOf : Finding → ℕ
+findStatusOf (FindDone n x) = 0
+findStatusOf (FindRefused r) = refusalNumber r
+
+-- the same of a question
+abbrev pub findCountsOf : Finding → Counts
+findCountsOf (FindDone n x) = n
+findCountsOf (FindRefused r) = noCounts
+
+-- what it gives; of a refusal nothing
+abbrev pub findStandingOf : Finding → Standing
+findStandingOf (FindDone n x) = x
+findStandingOf (FindRefused r) = Nothing
+
+-- a read that is done: the pages read, and what they gave
 abbrev pub readInto : Fetched → ReadOutcome
-readInto x =
-    record { answer = ReadDone (record { reads = x .reads; programs = 0; erases = 0; stores = 0 }); buffer = x .bytes }
+readInto x = record { answer = ReadDone (reading (x .reads)); buffer = x .bytes }
 
 module _ (l : Layout) where
   -- "If the list is longer than the allowance it stops there and answers cut with the counts so far; otherwise done."
@@ -106,10 +125,26 @@ module _ (l : Layout) where
   unfoldable pub readCall : Images → ℕ → ℕ → List ℕ → ReadOutcome
   readCall s lost page buffer = readOutcome (checked (readRows l s lost page buffer)) s lost page buffer
 
+  -- add: images, lost chip, ticket, allowance; it "counts the log's reads .., even when cut, and the write's"
+  unfoldable pub addCall : Images → ℕ → List ℕ → ℕ → Outcome
+  addCall s lost ticket allowance =
+      outcome (checked (addRows l s lost ticket)) (reading (logReads l s lost)) allowance (addSteps l lost ticket) s
+
+  -- a question is answered from the log
+  abbrev pub findOutcome : Check → Images → ℕ → ℕ → ℕ → Finding
+  findOutcome Passed s lost lot bag = FindDone (reading (logReads l s lost)) (standing l (contents l s lost) lot bag)
+  findOutcome (Failed r) s lost lot bag = FindRefused r
+
+  -- find: images, lost chip, lot, bag; it changes no byte
+  unfoldable pub findCall : Images → ℕ → ℕ → ℕ → Finding
+  findCall s lost lot bag = findOutcome (checked (findRows l s lost)) s lost lot bag
+
 -- A call that only reads, with "each call's arguments but the images".
 pub data Query : Type 0 where
   -- lost chip, page, buffer
   read-call : ℕ → ℕ → List ℕ → Query
+  -- lost chip, lot, bag
+  find-call : ℕ → ℕ → ℕ → Query
 
 -- A call on the images of a store, with the same.
 pub data Call : Type 0 where
@@ -121,11 +156,14 @@ pub data Call : Type 0 where
   commit-call : ℕ → ℕ → ℕ → Call
   -- lost chip, chip, allowance
   collect-call : ℕ → ℕ → ℕ → Call
+  -- lost chip, ticket, allowance
+  add-call : ℕ → List ℕ → ℕ → Call
   query-call : Query → Call
 
 -- the chip that a query names as lost
 abbrev pub queryLost : Query → ℕ
 queryLost (read-call lost page buffer) = lost
+queryLost (find-call lost lot bag) = lost
 
 -- the chip that a call names as lost
 abbrev pub lostChip : Call → ℕ
@@ -133,6 +171,7 @@ lostChip (open-call lost a) = lost
 lostChip (write-call lost page xs a) = lost
 lostChip (commit-call lost j a) = lost
 lostChip (collect-call lost c a) = lost
+lostChip (add-call lost ticket a) = lost
 lostChip (query-call q) = queryLost q
 
 -- "whether the call was answered done, cut or refused"
@@ -163,6 +202,7 @@ module _ (l : Layout) where
   -- the rows of a query
   unfoldable pub queryRows : Query → Images → List Row
   queryRows (read-call lost page buffer) s = readRows l s lost page buffer
+  queryRows (find-call lost lot bag) s = findRows l s lost
 
   -- The table of calls: what comes of each. A query leaves the images.
   unfoldable pub ended : Call → Images → Ended
@@ -170,4 +210,5 @@ module _ (l : Layout) where
   ended (write-call lost page xs a) s = stored (writeCall l s lost page xs a)
   ended (commit-call lost j a) s = stored (commitCall l s lost j a)
   ended (collect-call lost c a) s = stored (collectCall l s lost c a)
+  ended (add-call lost ticket a) s = stored (addCall l s lost ticket a)
   ended (query-call q) s = record { verdict = queryVerdict (checked (queryRows q s)); images = s }

@@ -1,14 +1,19 @@
 -- Demand 3 as one statement, in the terms of document 01, "The price book".
 use Prim.Native.Nat.{ℕ, _*_, _≤_, _<_}
 use mathlib.Core.Path.{_≡_}
+use mathlib.Core.Bool.{cond}
 use mathlib.Core.List.{List, [], _∷_}
 use lib.ListN.{length}
 use Rattle.bytes.specs.Units.{unitPut}
 use Rattle.layout.specs.Layout.{Layout, noChip, chipBytes}
 use Rattle.layout.specs.Images.{Images}
 use Rattle.steps.specs.declared.Counts.{Counts}
+use Rattle.rules.specs.declared.Refusal.the-variants.{Tickets}
 use Rattle.rules.specs.declared.Reading.the-variants.{Done as ReadDone}
-use Rattle.rules.specs.Calls.{ReadOutcome, Call, lostChip, done, verdict, ended, formatCall, readCall}
+use Rattle.rules.specs.declared.Finding.{Finding}
+use Rattle.rules.specs.declared.Finding.the-variants.{Done as FindDone, Refused as FindRefused}
+use Rattle.rules.specs.Log.{logSound, standing}
+use Rattle.rules.specs.Calls.{ReadOutcome, Call, lostChip, done, verdict, ended, formatCall, readCall, findCall}
 use Rattle.rules.specs.Book.{Book, finished, booked}
 
 -- the images and the book together
@@ -30,7 +35,7 @@ module _ (l : Layout) where
   called call x =
       record {
         images = ended l call (x .images) .images;
-        book = booked call (ended l call (x .images) .verdict) (x .book);
+        book = booked l call (ended l call (x .images) .verdict) (x .book);
       }
 
   -- "gets chips, records and slots as the last one left them, be it done, cut or refused"
@@ -60,6 +65,16 @@ module _ (l : Layout) where
       × (_≡_ {A = ReadOutcome} (readCall l (x .images) lost i buffer)
       (record { answer = ReadDone n; buffer = x .book i }))
 
+  -- document 02, 1, of the book's log, with these counts: "the one standing if it is a weight, else none"; refused "with 11" where a ticket
+  -- "found before the log's end" breaks the rules
+  abbrev pub bookFinding : Counts → Book → ℕ → ℕ → Finding
+  bookFinding n book lot bag = cond (logSound l book) (FindDone n (standing l book lot bag)) (FindRefused Tickets)
+
+  -- each question for a lot and bag that names that chip is answered so
+  abbrev pub FindsTheBook : ℕ → World → Type 0
+  FindsTheBook lost x =
+      (lot bag : ℕ) → (n : Counts) × (findCall l (x .images) lost lot bag ≡ bookFinding n (x .book) lot bag)
+
   -- "the images as a finished format left them"
   pub record Finished : Type 0 where
     pub images : Images
@@ -70,12 +85,16 @@ module _ (l : Layout) where
   abbrev pub start : Finished → World
   start f = record { images = formatCall l (f .images) (f .allowance) .images; book = finished l }
 
-  -- Demand 3: a finished format, any first list of calls, any bytes on any one chip, any second list that names it; and with
-  -- no chip taken, the first list alone.
-  pub record Demand3 : Type 0 where
+  -- what is owed after both lists: a finished format, any first list of calls, any bytes on any one chip, any second list that names it;
+  -- and with no chip taken, the first list alone
+  pub record AfterBothLists (Owed : ℕ → World → Type 0) : Type 0 where
     pub oneChipTaken :
         (f : Finished) (first : List Call) (c : ℕ) → c ≤ N
         → (bytes : List ℕ) → length bytes ≡ chipBytes l
         → (second : List Call) → allName c second
-        → ReadsTheBook c (calledAll second (chipTaken c bytes (calledAll first (start f))))
-    pub noChipTaken : (f : Finished) (first : List Call) → ReadsTheBook noChip (calledAll first (start f))
+        → Owed c (calledAll second (chipTaken c bytes (calledAll first (start f))))
+    pub noChipTaken : (f : Finished) (first : List Call) → Owed noChip (calledAll first (start f))
+
+  -- Demand 3: after both lists, every read gives the book's page.
+  abbrev pub Demand3 : Type 0
+  Demand3 = AfterBothLists ReadsTheBook

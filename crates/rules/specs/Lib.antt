@@ -13,6 +13,8 @@ pub mod Commit
 pub mod Partial
 pub mod Write
 pub mod Format
+pub mod Tickets
+pub mod Log
 pub mod Refusals
 pub mod Calls
 pub mod Book

@@ -11,10 +11,12 @@ use Rattle.layout.specs.Record.{recordAt, hasSlot}
 use Rattle.layout.specs.Collection.{collectionAt}
 use Rattle.layout.specs.Images.{Images, lengths}
 use Rattle.rules.specs.declared.Refusal.{Refusal}
-use Rattle.rules.specs.declared.Refusal.the-variants.{Geometry, Buffers, LostChip, Records, Spares, Collection, Request, Data, ChipSet, Work}
+use Rattle.rules.specs.declared.Refusal.the-variants.{Geometry, Buffers, LostChip, Records, Spares, Collection, Request, Data, ChipSet, Work, Tickets, FullLog}
 use Rattle.rules.specs.declared.Check.{Check}
 use Rattle.rules.specs.declared.Check.the-variants.{Passed, Failed}
 use Rattle.rules.specs.Collect.{victimOf}
+use Rattle.rules.specs.Tickets.{ticketBytes, ticketOf, ticketSound}
+use Rattle.rules.specs.Log.{contents, logSound, logOpen}
 use Rattle.rules.specs.Sound.{isLost, recordsSound, sparesSound}
 
 -- the column "No."
@@ -29,6 +31,8 @@ refusalNumber Request = 7
 refusalNumber Data = 8
 refusalNumber ChipSet = 9
 refusalNumber Work = 10
+refusalNumber Tickets = 11
+refusalNumber FullLog = 12
 
 -- a row of the table: the test that a call has to pass, and its refusal where it does not
 abbrev pub Row : Type 0
@@ -80,7 +84,7 @@ module _ (l : Layout) where
   imagesRows s lost =
       buffersRows s ++ ((lostNamed lost, LostChip) ∷ (recordsCheck s, Records) ∷ (sparesCheck s lost, Spares) ∷ [])
 
-  -- rows 1 to 6, of write, commit and collect
+  -- rows 1 to 6, of write, add, commit and collect
   unfoldable pub settledRows : Images → ℕ → List Row
   settledRows s lost = imagesRows s lost ++ ((atRest s, Collection) ∷ [])
 
@@ -110,3 +114,18 @@ module _ (l : Layout) where
   unfoldable pub collectRows : Images → ℕ → ℕ → List Row
   collectRows s lost c =
       (settledRows s lost ++ ((leb c N, Request) ∷ chipSetRow lost ∷ [])) ++ ((collectableOn s c, Work) ∷ [])
+
+  -- row 11 of a call that reads the log: "found before the log's end"
+  abbrev pub logRow : Images → ℕ → Row
+  logRow s lost = (logSound l (contents l s lost), Tickets)
+
+  -- find: "A reading of the log is checked as a read, then for 11"
+  unfoldable pub findRows : Images → ℕ → List Row
+  findRows s lost = imagesRows s lost ++ (logRow s lost ∷ [])
+
+  -- add: "it is checked as a write (8 if not 16 bytes)"; then "a ticket that breaks these rules, given or found", "a log that fills
+  -- every page", "both checked after 10"
+  unfoldable pub addRows : Images → ℕ → List ℕ → List Row
+  addRows s lost ticket =
+      (settledRows s lost ++ ((eqb (length ticket) ticketBytes, Data) ∷ chipSetRow lost ∷ []))
+      ++ ((ticketSound (ticketOf ticket), Tickets) ∷ logRow s lost ∷ (logOpen l (contents l s lost), FullLog) ∷ [])

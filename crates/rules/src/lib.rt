@@ -33,6 +33,10 @@ pub enum Refusal {
     Data,
     ChipSet,
     Work,
+    // document 02, 1: a ticket breaks its rules
+    Tickets,
+    // document 02, 1: the log fills every page
+    FullLog,
 }
 
 // What the checks of a call come to.
@@ -51,5 +55,36 @@ pub enum Answer {
 // The answer of a read, which stores nothing and so is never cut.
 pub enum Reading {
     Done(Counts),
+    Refused(Refusal),
+}
+
+// A ticket: 16 bytes, as document 02, 1 has them.
+pub struct Ticket {
+    // 0 empty, 1 weight, 2 withdrawal
+    pub kind: u8,
+    // a zero byte
+    pub blank: u8,
+    pub bag: u16,
+    pub lot: u32,
+    // in grams
+    pub gross: u32,
+    pub tare: u32,
+}
+
+// A weight, in grams.
+pub struct Weight {
+    pub gross: u32,
+    pub tare: u32,
+}
+
+// What stands for a lot and bag.
+pub enum Standing {
+    Weighed(Weight),
+    Nothing,
+}
+
+// The answer of a question for a lot and bag, which stores nothing.
+pub enum Finding {
+    Done(Counts, Standing),
     Refused(Refusal),
 }

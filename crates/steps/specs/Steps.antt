@@ -40,6 +40,10 @@ isCut allowance xs = ltb allowance (length xs)
 abbrev pub noCounts : Counts
 noCounts = record { reads = 0; programs = 0; erases = 0; stores = 0 }
 
+-- those of a call that has read so many pages, and stored nothing
+abbrev pub reading : ℕ → Counts
+reading n = record { reads = n; programs = 0; erases = 0; stores = 0 }
+
 -- "pages programmed"
 abbrev pub programsOf : Store → ℕ
 programsOf (program c p x) = 1

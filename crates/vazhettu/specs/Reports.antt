@@ -4,9 +4,11 @@ use mathlib.Core.List.{List}
 use Prim.Native.Nat.{ℕ}
 use Rattle.rules.specs.declared.Answer.{Answer}
 use Rattle.rules.specs.declared.Reading.{Reading}
-use Rattle.rules.specs.Calls.{Outcome, ReadOutcome, statusOf, countsOf, readStatusOf, readCountsOf}
+use Rattle.rules.specs.declared.Finding.{Finding}
+use Rattle.rules.specs.Calls.{Outcome, ReadOutcome, statusOf, countsOf, readStatusOf, readCountsOf, findStatusOf, findCountsOf, findStandingOf}
 use Rattle.answers.specs.declared.Report.{Report}
-use Rattle.answers.specs.Reports.{reportOf}
+use Rattle.answers.specs.declared.FindReport.{FindReport}
+use Rattle.answers.specs.Reports.{reportOf, standingReportOf}
 
 -- of a call that stores
 abbrev pub reported : Answer → Report
@@ -33,3 +35,7 @@ pub record ReadReported : Type 0 where
 -- of an outcome
 abbrev pub readReportedOf : ReadOutcome → ReadReported
 readReportedOf o = record { report = readReported (o .answer); buffer = o .buffer }
+
+-- of a question, which changes no byte
+abbrev pub findReported : Finding → FindReport
+findReported a = standingReportOf (findStatusOf a) (findCountsOf a) (findStandingOf a)

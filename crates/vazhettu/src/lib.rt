@@ -1,16 +1,22 @@
 //! The calls for C and Rust: slices as pointer and length, the answer as a struct of numbers.
 
+use answers::FindReport;
 use answers::Report;
+use answers::refusal_number;
 use answers::with_counts;
+use answers::with_standing;
 use answers::without_counts;
 use layout::Geometry;
 use rules::Answer;
+use rules::Finding;
 use rules::Reading;
+use rules::Standing;
+use steps::Counts;
 ghost use mathlib.Core.Path.{_≡_};
 ghost use Rattle.layout.specs.Layout.{layoutOf};
 ghost use Rattle.steps.specs.Allowance.{images};
-ghost use Rattle.rules.specs.Calls.{formatCall, openCall, writeCall, commitCall, collectCall, readCall};
-ghost use Rattle.vazhettu.specs.Reports.{reported, readReported, Reported, reportedOf, ReadReported, readReportedOf};
+ghost use Rattle.rules.specs.Calls.{formatCall, openCall, writeCall, commitCall, collectCall, readCall, addCall, findCall};
+ghost use Rattle.vazhettu.specs.Reports.{reported, readReported, Reported, reportedOf, ReadReported, readReportedOf, findReported};
 
 // A report of the answer of a call that stores.
 fn report_of(a: Answer) -> Report
@@ -30,6 +36,24 @@ fn read_report_of(a: Reading) -> Report
     match a {
         Reading::Done(c) => with_counts(0, c),
         Reading::Refused(r) => without_counts(r),
+    }
+}
+
+// A report of the answer of a question.
+fn find_report_of(a: Finding) -> FindReport
+    ensures { λ r. ⌜ r ≡ findReported a ⌝ }
+{
+    match a {
+        Finding::Done(c, x) => with_standing(0, c, x),
+        Finding::Refused(r) => {
+            let none = Counts {
+                reads: 0,
+                programs: 0,
+                erases: 0,
+                stores: 0,
+            };
+            with_standing(refusal_number(r), none, Standing::Nothing)
+        }
     }
 }
 
@@ -137,4 +161,38 @@ pub extern "C" fn vazhettu_collect(
         (reportedOf (collectCall (layoutOf g) (images (now (chips .entry)) (now (records .entry)) (now (slots .entry))) lost chip allowance)) ⌝ }
 {
     report_of(calls::collect(g, chips, records, slots, lost, chip, allowance))
+}
+
+// See tickets::add.
+#[no_mangle]
+pub extern "C" fn vazhettu_add(
+    g: Geometry,
+    chips: &mut [u8],
+    records: &mut [u8],
+    slots: &mut [u8],
+    lost: u64,
+    ticket: &[u8],
+    allowance: u64,
+) -> Report
+    ensures { λ r. ⌜ _≡_ {A = Reported}
+        (record { report = r; images = images (now (chips .exit)) (now (records .exit)) (now (slots .exit)) })
+        (reportedOf (addCall (layoutOf g) (images (now (chips .entry)) (now (records .entry)) (now (slots .entry))) lost (now (ticket .entry)) allowance)) ⌝ }
+{
+    report_of(tickets::add(g, chips, records, slots, lost, ticket, allowance))
+}
+
+// See tickets::find.
+#[no_mangle]
+pub extern "C" fn vazhettu_find(
+    g: Geometry,
+    chips: &[u8],
+    records: &[u8],
+    slots: &[u8],
+    lost: u64,
+    lot: u32,
+    bag: u16,
+) -> FindReport
+    ensures { λ r. ⌜ r ≡ findReported (findCall (layoutOf g) (images (now (chips .entry)) (now (records .entry)) (now (slots .entry))) lost lot bag) ⌝ }
+{
+    find_report_of(tickets::find(g, chips, records, slots, lost, lot, bag))
 }

@@ -130,11 +130,17 @@ module _ (l : Layout) where
   module _ (some : 1 ≤ l .D) (narrow : l .D ≤ 4) where
     -- "the images as a finished format left them"
     module _ (f : Finished l) where
-      usable : Usable l
+      pub usable : Usable l
       usable = record { within = within l (format-fresh l some narrow (f .images) (f .allowance) (f .isDone) .0); some = some; narrow = narrow }
 
       start-holds : Holds l alive (start l f)
       start-holds = fresh-inv l usable (start l f .images) (format-fresh l some narrow (f .images) (f .allowance) (f .isDone) .1)
+
+    -- every chip is in place after the first list
+    pub first-holds : (f : Finished l) (first : List Call) → Holds l alive (calledAll l first (start l f))
+    first-holds f first =
+        rw (first-ends first [], lists-happen first [] (start l f)) at
+        (history-holds l (usable f) alive (asEvents first ++ []) (start l f) (first-allowed first [] tt) (start-holds f))
 
     one-chip : (f : Finished l) (first : List Call) (c : ℕ) → c ≤ l .N → (bytes : List ℕ) → length bytes ≡ chipBytes l
         → (second : List Call) → allName c second → Owed l (dead c) (calledAll l second (chipTaken l c bytes (calledAll l first (start l f))))
@@ -148,9 +154,7 @@ module _ (l : Layout) where
         (first-allowed first after ((chip, whole), second-allowed c second naming)) (start-holds f))
 
     no-chip : (f : Finished l) (first : List Call) → Owed l alive (calledAll l first (start l f))
-    no-chip f first =
-        rw (first-ends first [], lists-happen first [] (start l f)) at
-        (history-reads l (usable f) (asEvents first ++ []) (start l f) (first-allowed first [] tt) (start-holds f))
+    no-chip f first = holds-owed l (usable f) alive (calledAll l first (start l f)) (first-holds f first)
 
     pub demand-3 : Demand3 l
     demand-3 = record { oneChipTaken = one-chip; noChipTaken = no-chip }

@@ -11,6 +11,7 @@ use lib.Dec.{eqb}
 use borrow.Author.Tests.{le-leb, eqb-false}
 use Rattle.bytes.specs.Units.{unit, unitPut}
 use Rattle.bytes.proofs.Units.{unit-other, length-unitPut}
+use Rattle.ranges.proofs.Looks.{when-same}
 use Rattle.ranges.proofs.Tests.{or-right}
 use Rattle.layout.specs.Layout.{Layout, noChip, pages, pageBytes, chipBytes}
 use Rattle.layout.specs.Page.{Page, pageOf, pageAt}
@@ -19,13 +20,14 @@ use Rattle.steps.specs.Steps.{noCounts}
 use Rattle.steps.proofs.Prefixes.{every-nil}
 use Rattle.rules.specs.declared.Check.{Check}
 use Rattle.rules.specs.declared.Check.the-variants.{Passed, Failed}
-use Rattle.rules.specs.Refusals.{lostNamed, checked, imagesRows, writeRows, commitRows, collectRows}
+use Rattle.rules.specs.Refusals.{lostNamed, checked, imagesRows, writeRows, commitRows, collectRows, addRows}
 use Rattle.rules.specs.Open.{openSteps}
-use Rattle.rules.specs.Calls.{run, outcome, openCall, writeCall, commitCall, collectCall, Call, open-call, write-call, commit-call, collect-call, query-call, lostChip, ended}
-use Rattle.rules.specs.Book.{booked}
+use Rattle.rules.specs.Log.{logEnd}
+use Rattle.rules.specs.Calls.{run, outcome, openCall, writeCall, commitCall, collectCall, addCall, Call, open-call, write-call, commit-call, collect-call, add-call, query-call, lostChip, ended}
+use Rattle.rules.specs.Book.{completed, booked}
 use Rattle.rules.specs.Demand.{World, called, chipTaken, ReadsTheBook}
 use Rattle.rules.proofs.Soundness.Statements.{Usable, SoundBut, sound-but}
-use Rattle.rules.proofs.Soundness.Accepted.{write-accepted, commit-accepted, collect-accepted, lost-refused}
+use Rattle.rules.proofs.Soundness.Accepted.{write-accepted, commit-accepted, collect-accepted, add-accepted, lost-refused}
 use Rattle.rules.proofs.Data.Rebuild.{fetch-elsewhere}
 use Rattle.rules.proofs.Lists.EachCall.{open-lost}
 use Rattle.rules.proofs.Demand.Invariant.{Inv, reads-book}
@@ -99,7 +101,7 @@ module _ (l : Layout) where
 
     -- of every kind of call
     pub call-stays : (call : Call) → lostChip call ≡ c → (x : World) → (called l call x .images ≡ x .images) × (called l call x .book ≡ x .book)
-    unfolding called ended booked openCall writeCall commitCall collectCall
+    unfolding called ended completed booked openCall writeCall commitCall collectCall addCall
     call-stays (open-call lost a) e x = (rw e (open-stays (x .images) a (checked (imagesRows l (x .images) c))), refl)
     call-stays (write-call lost page xs a) e x =
         let (r, refused) = lost-refused c (writeRows l (x .images) c page xs) not-none (λ h. write-accepted l (x .images) c page xs h .0) in rw (e, refused) (refl, refl)
@@ -107,4 +109,7 @@ module _ (l : Layout) where
         let (r, refused) = lost-refused c (commitRows l (x .images) c j) not-none (λ h. commit-accepted l (x .images) c j h .0) in rw (e, refused) (refl, refl)
     call-stays (collect-call lost d a) e x =
         let (r, refused) = lost-refused c (collectRows l (x .images) c d) not-none (λ h. collect-accepted l (x .images) c d h .0) in rw (e, refused) (refl, refl)
+    call-stays (add-call lost ticket a) e x =
+        let (r, refused) = lost-refused c (addRows l (x .images) c ticket) not-none (λ h. add-accepted l (x .images) c ticket h .0) in
+        rw (e, refused) (refl, when-same (logEnd l (x .book)) (x .book))
     call-stays (query-call q) e x = (refl, refl)

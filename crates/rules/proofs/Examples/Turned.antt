@@ -9,8 +9,9 @@ use Rattle.rules.specs.declared.Refusal.{Refusal}
 use Rattle.rules.specs.declared.Refusal.the-variants.{Geometry}
 use Rattle.rules.specs.declared.Answer.the-variants.{Refused}
 use Rattle.rules.specs.declared.Reading.the-variants.{Refused as ReadRefused}
-use Rattle.rules.specs.Refusals.{buffersRows, imagesRows, readRows, settledRows, writeRows, commitRows, collectRows}
-use Rattle.rules.specs.Calls.{formatCall, openCall, readCall, writeCall, commitCall, collectCall}
+use Rattle.rules.specs.declared.Finding.the-variants.{Refused as FindRefused}
+use Rattle.rules.specs.Refusals.{buffersRows, imagesRows, readRows, settledRows, writeRows, commitRows, collectRows, addRows, findRows}
+use Rattle.rules.specs.Calls.{formatCall, openCall, readCall, writeCall, commitCall, collectCall, addCall, findCall}
 
 module _ (l : Layout) where
   -- every call is refused with r, and changes nothing
@@ -21,9 +22,11 @@ module _ (l : Layout) where
     pub write : (s : Images) (lost i : ℕ) (xs : List ℕ) (a : ℕ) → writeCall l s lost i xs a ≡ record { answer = Refused r; images = s }
     pub commit : (s : Images) (lost j a : ℕ) → commitCall l s lost j a ≡ record { answer = Refused r; images = s }
     pub collect : (s : Images) (lost c a : ℕ) → collectCall l s lost c a ≡ record { answer = Refused r; images = s }
+    pub add : (s : Images) (lost : ℕ) (ticket : List ℕ) (a : ℕ) → addCall l s lost ticket a ≡ record { answer = Refused r; images = s }
+    pub find : (s : Images) (lost lot bag : ℕ) → findCall l s lost lot bag ≡ FindRefused r
 
   pub outside-limits : limits l ≡ false → TurnedBack Geometry
-  unfolding formatCall openCall readCall writeCall commitCall collectCall buffersRows imagesRows readRows settledRows writeRows commitRows collectRows
+  unfolding formatCall openCall readCall writeCall commitCall collectCall addCall findCall buffersRows imagesRows readRows settledRows writeRows commitRows collectRows addRows findRows
   outside-limits e = record {
     format = λ s a. rw e;
     open-call = λ s lost a. rw e;
@@ -31,4 +34,6 @@ module _ (l : Layout) where
     write = λ s lost i xs a. rw e;
     commit = λ s lost j a. rw e;
     collect = λ s lost c a. rw e;
+    add = λ s lost ticket a. rw e;
+    find = λ s lost lot bag. rw e;
   }

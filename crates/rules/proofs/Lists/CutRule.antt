@@ -10,7 +10,7 @@ use Rattle.ranges.proofs.Looks.{by-test}
 use Rattle.layout.specs.Layout.{Layout}
 use Rattle.layout.specs.Images.{Images}
 use Rattle.steps.specs.declared.Counts.{Counts}
-use Rattle.steps.specs.Steps.{Step, noCounts, made, isCut, applyAll}
+use Rattle.steps.specs.Steps.{Step, noCounts, made, isCut, applyAll, reading as pagesRead}
 use Rattle.steps.proofs.Totals.{withTotals, counts-are, cut-stores}
 use Rattle.rules.specs.declared.Refusal.{Refusal}
 use Rattle.rules.specs.declared.Check.{Check}
@@ -18,14 +18,16 @@ use Rattle.rules.specs.declared.Check.the-variants.{Passed, Failed}
 use Rattle.rules.specs.declared.Answer.{Answer}
 use Rattle.rules.specs.declared.Answer.the-variants.{Done, Cut, Refused}
 use Rattle.rules.specs.declared.Reading.the-variants.{Refused as ReadRefused}
+use Rattle.rules.specs.declared.Finding.the-variants.{Done as FindDone, Refused as FindRefused}
 use Rattle.rules.specs.Read.{fetch}
-use Rattle.rules.specs.Refusals.{checked, buffersRows, imagesRows, readRows, writeRows, commitRows, collectRows}
+use Rattle.rules.specs.Refusals.{checked, buffersRows, imagesRows, readRows, writeRows, commitRows, collectRows, findRows, addRows}
 use Rattle.rules.specs.Open.{openSteps}
 use Rattle.rules.specs.Collect.{collectSteps}
 use Rattle.rules.specs.Commit.{commitSteps}
 use Rattle.rules.specs.Write.{writeSteps}
 use Rattle.rules.specs.Format.{formatSteps}
-use Rattle.rules.specs.Calls.{Verdict, done, cut, refused, Outcome, run, outcome, readInto, formatCall, openCall, readCall, writeCall, commitCall, collectCall}
+use Rattle.rules.specs.Log.{standing, contents, logReads, addSteps}
+use Rattle.rules.specs.Calls.{Verdict, done, cut, refused, Outcome, run, outcome, readInto, formatCall, openCall, readCall, writeCall, commitCall, collectCall, addCall, findCall}
 
 -- what tells verdicts and answers apart
 abbrev pub verdictNumber : Verdict → ℕ
@@ -74,7 +76,7 @@ module _ (l : Layout) where
     only-cut = cut-only check n a steps s;
   }
 
-  -- the five calls that store; and a read, which stores nothing
+  -- the calls that store; and a read and a question, which store nothing
   pub record CutRules : Type 0 where
     pub format : (s : Images) (a : ℕ) → CutRule (checked (buffersRows l s)) noCounts a (formatSteps l) s (formatCall l s a)
     pub open-call : (s : Images) (lost a : ℕ) → CutRule (checked (imagesRows l s lost)) noCounts a (openSteps l lost s) s (openCall l s lost a)
@@ -82,19 +84,28 @@ module _ (l : Layout) where
         → CutRule (checked (writeRows l s lost page xs)) noCounts a (writeSteps l page xs s) s (writeCall l s lost page xs a)
     pub commit : (s : Images) (lost j a : ℕ) → CutRule (checked (commitRows l s lost j)) noCounts a (commitSteps l j s) s (commitCall l s lost j a)
     pub collect : (s : Images) (lost c a : ℕ) → CutRule (checked (collectRows l s lost c)) noCounts a (collectSteps l c s) s (collectCall l s lost c a)
+    -- the counts begin with the log's reads, "even when cut"
+    pub add : (s : Images) (lost : ℕ) (ticket : List ℕ) (a : ℕ)
+        → CutRule (checked (addRows l s lost ticket)) (pagesRead (logReads l s lost)) a (addSteps l lost ticket s) s (addCall l s lost ticket a)
     pub read-refusing : (s : Images) (lost page : ℕ) (buffer : List ℕ) (r : Refusal) → checked (readRows l s lost page buffer) ≡ Failed r
         → readCall l s lost page buffer ≡ record { answer = ReadRefused r; buffer = buffer }
     pub reading : (s : Images) (lost page : ℕ) (buffer : List ℕ) → checked (readRows l s lost page buffer) ≡ Passed
         → readCall l s lost page buffer ≡ readInto (fetch l s lost page)
+    pub find-refusing : (s : Images) (lost lot bag : ℕ) (r : Refusal) → checked (findRows l s lost) ≡ Failed r → findCall l s lost lot bag ≡ FindRefused r
+    pub finding : (s : Images) (lost lot bag : ℕ) → checked (findRows l s lost) ≡ Passed
+        → findCall l s lost lot bag ≡ FindDone (pagesRead (logReads l s lost)) (standing l (contents l s lost) lot bag)
 
   pub cut-rules : CutRules
-  unfolding formatCall openCall writeCall commitCall collectCall readCall
+  unfolding formatCall openCall writeCall commitCall collectCall addCall readCall findCall
   cut-rules = record {
     format = λ s a. outcome-rule (checked (buffersRows l s)) noCounts a (λ t. formatSteps l) s;
     open-call = λ s lost a. outcome-rule (checked (imagesRows l s lost)) noCounts a (openSteps l lost) s;
     write = λ s lost page xs a. outcome-rule (checked (writeRows l s lost page xs)) noCounts a (writeSteps l page xs) s;
     commit = λ s lost j a. outcome-rule (checked (commitRows l s lost j)) noCounts a (commitSteps l j) s;
     collect = λ s lost c a. outcome-rule (checked (collectRows l s lost c)) noCounts a (collectSteps l c) s;
+    add = λ s lost ticket a. outcome-rule (checked (addRows l s lost ticket)) (pagesRead (logReads l s lost)) a (addSteps l lost ticket) s;
     read-refusing = λ s lost page buffer r e. rw e;
     reading = λ s lost page buffer e. rw e;
+    find-refusing = λ s lost lot bag r e. rw e;
+    finding = λ s lost lot bag e. rw e;
   }

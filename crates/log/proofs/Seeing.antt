@@ -1,0 +1,92 @@
+-- Tickets looked at one after the other: how many are sound, and what stands after them.
+use Prim.Native.Nat.{ℕ, zero, suc, _+_, _-_, _*_, _<_}
+use native.Mathlib.Nat.{add-zero, add-suc}
+use native.Mathlib.Numerals.{add-one}
+use native.Mathlib.Omega.{arith}
+use mathlib.Core.Path.{_≡_, refl, sym, ap, _∙_}
+use mathlib.Core.Bool.{true, cond}
+use mathlib.Core.List.{List}
+use lib.ListN.{getD}
+use Rattle.ranges.specs.Look.{allBelow, lastBelow, whenFound}
+use Rattle.ranges.proofs.Looks.{by-test, by-order, all-true, all-at}
+use Rattle.bytes.specs.Number.{number}
+use Rattle.bytes.specs.Units.{part, unit}
+use Rattle.bytes.proofs.Units.{part-unit, getD-unit}
+use Rattle.rules.specs.declared.Ticket.{Ticket}
+use Rattle.rules.specs.declared.Standing.{Standing}
+use Rattle.rules.specs.Tickets.{ticketBytes, ticketOf, ticketSound, isFor, weightOf}
+use Rattle.log.specs.Walks.{Seen}
+
+-- the fields of ticket i of a page, where they lie
+pub ticket-is : (page : List ℕ) (i : ℕ)
+    → record {
+      kind = getD page (i * 16) 0;
+      blank = getD page (i * 16 + 1) 0;
+      bag = number (part (i * 16 + 2) 2 page);
+      lot = number (part (i * 16 + 4) 4 page);
+      gross = number (part (i * 16 + 8) 4 page);
+      tare = number (part (i * 16 + 12) 4 page);
+    }
+    ≡ ticketOf (unit ticketBytes i page)
+unfolding ticketOf
+ticket-is page i =
+    let first : getD (unit 16 i page) 0 0 ≡ getD page (i * 16) 0 = getD-unit 16 i 0 0 page (omega arith) ∙ ap (λ (a : ℕ). getD page a 0) (add-zero (i * 16)) in
+    rw (
+      first,
+      getD-unit 16 i 1 0 page (omega arith),
+      part-unit 16 i 2 2 page (omega arith),
+      part-unit 16 i 4 4 page (omega arith),
+      part-unit 16 i 8 4 page (omega arith),
+      part-unit 16 i 12 4 page (omega arith),
+    )
+
+module _ (x : ℕ → Ticket) (lot bag : ℕ) (first : Standing) where
+  -- what stands after n tickets
+  abbrev pub stood : ℕ → Standing
+  stood n = whenFound (lastBelow n (λ t. isFor lot bag (x t))) (λ t. weightOf (x t)) first
+
+  stood-more : (n : ℕ) → stood (suc n) ≡ cond (isFor lot bag (x n)) (weightOf (x n)) (stood n)
+  unfolding lastBelow whenFound
+  stood-more n = by-test (isFor lot bag (x n)) (λ e. rw e) (λ e. rw e)
+
+  pub seen-none : Seen x lot bag first 0 first
+  unfolding allBelow lastBelow whenFound
+  seen-none = record { sound = refl; stands = refl }
+
+  -- one ticket more
+  pub seen-more : {n : ℕ} {last : Standing} → Seen x lot bag first n last → ticketSound (x n) ≡ true
+      → Seen x lot bag first (n + 1) (cond (isFor lot bag (x n)) (weightOf (x n)) last)
+  unfolding allBelow
+  seen-more {n} {last} s h =
+      rw add-one
+      (record { sound = rw (s .sound, h); stands = rw (s .stands) (sym (stood-more n)) })
+
+module _ (lot bag : ℕ) where
+  stood-cong : (x y : ℕ → Ticket) (first : Standing) (n : ℕ) → ((k : ℕ) → k < n → x k ≡ y k) → stood x lot bag first n ≡ stood y lot bag first n
+  unfolding lastBelow whenFound
+  stood-cong x y first zero h = refl
+  stood-cong x y first (suc n) h =
+      rw (stood-more x lot bag first n, stood-more y lot bag first n, h n (omega arith), stood-cong x y first n (λ k b. h k (omega arith)))
+
+  stood-append : (x : ℕ → Ticket) (first : Standing) (a n : ℕ) → stood x lot bag first (a + n) ≡ stood (λ k. x (a + k)) lot bag (stood x lot bag first a) n
+  unfolding lastBelow whenFound
+  stood-append x first a zero = rw add-zero
+  stood-append x first a (suc n) =
+      rw (add-suc, stood-more x lot bag first (a + n), stood-more (λ k. x (a + k)) lot bag (stood x lot bag first a) n, stood-append x first a n)
+
+  -- the tickets y of a page behind a others
+  pub seen-page : {x y : ℕ → Ticket} {first mid last : Standing} {a n : ℕ} → ((k : ℕ) → k < n → x (a + k) ≡ y k)
+      → Seen x lot bag first a mid → Seen y lot bag mid n last → Seen x lot bag first (a + n) last
+  seen-page {x} {y} {first} {mid} {last} {a} {n} h s t = record {
+    sound = all-true (a + n) (λ k. ticketSound (x k)) (λ k b.
+        by-order k a
+        (λ low. all-at a (λ i. ticketSound (x i)) (s .sound) k low)
+        (λ high.
+        let e : a + (k - a) ≡ k = omega arith in
+        rw (sym e, h (k - a) (omega arith)) (all-at n (λ i. ticketSound (y i)) (t .sound) (k - a) (omega arith))));
+    stands =
+        t .stands
+        ∙ sym (stood-cong (λ k. x (a + k)) y mid n h)
+        ∙ ap (λ (z : Standing). stood (λ k. x (a + k)) lot bag z n) (s .stands)
+        ∙ sym (stood-append x first a n);
+  }

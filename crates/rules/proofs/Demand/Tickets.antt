@@ -1,0 +1,207 @@
+-- Document 02, 1, under demand 3: what is found is the book's, an addition that is done puts its ticket at the end of the book's log, and
+-- one that is not leaves the log.
+use Prim.Native.Nat.{ℕ, _*_, _≤_, _<_}
+use native.Mathlib.Nat.{mul-pos}
+use native.Mathlib.Omega.{arith}
+use mathlib.Core.Path.{_≡_, refl, sym, ap, _∙_}
+use mathlib.Core.Logic.{_≢_}
+use mathlib.Core.Bool.{true}
+use mathlib.Core.List.{List, [], _∷_, _++_}
+use lib.ListN.{length, replicate, length-replicate}
+use Rattle.ranges.specs.declared.Found.the-variants.{At}
+use Rattle.ranges.specs.Look.{whenFound}
+use Rattle.ranges.specs.Update.{at}
+use Rattle.ranges.proofs.Looks.{by-test, when-same}
+use Rattle.ranges.proofs.Updates.{at-other}
+use Rattle.layout.specs.Layout.{Layout, noChip, chipBytes}
+use Rattle.layout.specs.Images.{Images}
+use Rattle.layout.proofs.Limits.{Within}
+use Rattle.steps.specs.declared.Counts.{Counts}
+use Rattle.steps.specs.Steps.{Step, reading}
+use Rattle.rules.specs.declared.Check.{Check}
+use Rattle.rules.specs.declared.Check.the-variants.{Passed, Failed}
+use Rattle.rules.specs.declared.Reading.the-variants.{Done as ReadDone}
+use Rattle.rules.specs.Tickets.{ticketBytes, ticketOf, ticketSound}
+use Rattle.rules.specs.Log.{fallsIn, bytesAt, logEnd, logSound, withTicket, contents, logReads, addSteps}
+use Rattle.rules.specs.Refusals.{checked, imagesRows, pageRows, logRow, readRows, findRows, addRows}
+use Rattle.rules.specs.Calls.{ReadOutcome, readCall, findCall, addCall, Call, add-call, Verdict, done, cut, refused, outcome, verdict, ended}
+use Rattle.rules.specs.Book.{Book, completed, booked}
+use Rattle.rules.specs.Demand.{World, called, calledAll, chipTaken, allName, ReadsTheBook, FindsTheBook, Finished, start, AfterBothLists}
+use Rattle.rules.proofs.Soundness.Statements.{Usable}
+use Rattle.rules.proofs.Soundness.Table.{by-check, below-passed, both-passed}
+use Rattle.rules.proofs.Soundness.Accepted.{add-accepted}
+use Rattle.rules.proofs.Data.Log.{SamePages, end-fits, page-fits, end-same, sound-same, standing-same, with-bytes, contents-whole}
+use Rattle.rules.proofs.Data.NewTicket.{ClearBehind, Grown, grown}
+use Rattle.rules.proofs.Lists.CutRule.{verdictNumber}
+use Rattle.rules.proofs.Demand.Invariant.{Inv}
+use Rattle.rules.proofs.Demand.Taken.{call-stays}
+use Rattle.rules.proofs.Demand.Events.{usable, first-holds, demand-3}
+
+module _ (l : Layout) where
+  open Layout l using (N, W, S)
+
+  -- the ticket is where the log ended; every other place, and every page but that one, is as it was
+  pub record Added (ticket : List ℕ) (before after : Book) : Type 0 where
+    pub place : ℕ
+    pub end : logEnd l before ≡ At place
+    pub tickets : bytesAt l after ≡ at place ticket (bytesAt l before)
+    pub pages : (i : ℕ) → i ≢ fallsIn l place → after i ≡ before i
+    -- the log is longer by it and it stands; but where a page was written with something behind the end, that comes to light
+    pub grows : ClearBehind l place before → Grown l ticket place before after
+
+  -- what a finished format and a first list leave
+  abbrev pub reached : Finished l → List Call → World
+  reached f first = calledAll l first (start l f)
+
+  -- what an addition there is answered, and what it leaves
+  abbrev pub addVerdict : World → ℕ → List ℕ → ℕ → Verdict
+  addVerdict x lost ticket a = ended l (add-call lost ticket a) (x .images) .verdict
+
+  abbrev pub afterAdd : World → ℕ → List ℕ → ℕ → World
+  afterAdd x lost ticket a = called l (add-call lost ticket a) x
+
+  -- "a cut addition leaves the log as it was, whichever chip dies later": what is found after it, with a chip taken and calls that name it, is
+  -- what the book had before it
+  abbrev pub LeavesTheLog : Type 0
+  LeavesTheLog =
+      (f : Finished l) (first : List Call) (lost : ℕ) (ticket : List ℕ) (a : ℕ) → addVerdict (reached f first) lost ticket a ≢ done
+      → (c : ℕ) → c ≤ N → (bytes : List ℕ) → length bytes ≡ chipBytes l → (second : List Call) → allName c second
+      → FindsTheBook l c
+      (record {
+        images = calledAll l second (chipTaken l c bytes (afterAdd (reached f first) lost ticket a)) .images;
+        book = reached f first .book;
+      })
+
+  pub record TicketsKept : Type 0 where
+    -- a question is answered from the book's log, with no chip dead or any one
+    pub finds : AfterBothLists l (FindsTheBook l)
+    -- an addition that is done puts its ticket at the end of the book's log
+    pub adds : (f : Finished l) (first : List Call) (lost : ℕ) (ticket : List ℕ) (a : ℕ) → addVerdict (reached f first) lost ticket a ≡ done
+        → Added ticket (reached f first .book) (afterAdd (reached f first) lost ticket a .book)
+    -- one that is cut or refused leaves the book
+    pub keeps : (x : World) (lost : ℕ) (ticket : List ℕ) (a : ℕ) → addVerdict x lost ticket a ≢ done → afterAdd x lost ticket a .book ≡ x .book
+    pub leaves : LeavesTheLog
+
+  -- a read that is done passed rows 1 to 5, and gave what the page reads as
+  read-done : (s : Images) (lost i : ℕ) (buffer : List ℕ) (n : Counts) (ys : List ℕ)
+      → _≡_ {A = ReadOutcome} (readCall l s lost i buffer) (record { answer = ReadDone n; buffer = ys })
+      → (checked (imagesRows l s lost) ≡ Passed) × (contents l s lost i ≡ ys)
+  unfolding readCall readRows
+  read-done s lost i buffer n ys e = by-check (checked (readRows l s lost i buffer))
+      (λ passed. (
+        both-passed (imagesRows l s lost) (pageRows l i (length buffer)) passed .0,
+        ap (λ (o : ReadOutcome). o .buffer) (rw passed at e),
+      ))
+      (λ r failed. let h = rw failed at e in let z : _≡_ {A = ℕ} 0 1 = cc (ap (λ (o : ReadOutcome). o .answer) h) in absurd (omega arith))
+
+  -- so where every page reads as the book has it, so does the log
+  module _ (w : Within l) (lost : ℕ) (x : World) (reads : ReadsTheBook l lost x) where
+    page-read : (i : ℕ) → i < N * S → (checked (imagesRows l (x .images) lost) ≡ Passed) × (contents l (x .images) lost i ≡ x .book i)
+    page-read i h =
+        let (n, e) = reads i h (replicate W 0) (length-replicate W 0) in
+        read-done (x .images) lost i (replicate W 0) n (x .book i) e
+
+    rows-read : checked (imagesRows l (x .images) lost) ≡ Passed
+    rows-read = page-read 0 (mul-pos (omega (arith, w .members-low)) (w .stripes-low)) .0
+
+    same-pages : SamePages l (contents l (x .images) lost) (x .book)
+    same-pages i h = page-read i h .1
+
+    pub finds-book : FindsTheBook l lost x
+    unfolding findCall findRows
+    finds-book lot bag = (
+      reading (logReads l (x .images) lost),
+      rw (
+        below-passed (imagesRows l (x .images) lost) (logRow l (x .images) lost ∷ []) rows-read,
+        sound-same l w (contents l (x .images) lost) (x .book) same-pages,
+      )
+          (by-test (logSound l (x .book))
+          (λ t. rw (t, standing-same l w (contents l (x .images) lost) (x .book) same-pages lot bag))
+          (λ t. rw t)),
+    )
+
+  -- what follows from what is owed
+  owed-too : (Owed Also : ℕ → World → Type 0) → (Finished l → (c : ℕ) (x : World) → Owed c x → Also c x) → AfterBothLists l Owed → AfterBothLists l Also
+  owed-too Owed Also more h = record {
+    oneChipTaken = λ f first c chip bytes whole second naming.
+        more f c (calledAll l second (chipTaken l c bytes (calledAll l first (start l f)))) (h .oneChipTaken f first c chip bytes whole second naming);
+    noChipTaken = λ f first. more f noChip (calledAll l first (start l f)) (h .noChipTaken f first);
+  }
+
+  -- an addition answered done passed its rows
+  done-passed : (check : Check) (n : Counts) (a : ℕ) (steps : Images → List Step) (s : Images) → verdict (outcome l check n a steps s .answer) ≡ done → check ≡ Passed
+  done-passed Passed n a steps s e = refl
+  done-passed (Failed r) n a steps s e = absurd (omega (arith, ap verdictNumber e))
+
+  -- the book with a ticket at the end of its log
+  added : Within l → (book : Book) (ticket : List ℕ) (t : ℕ) → logEnd l book ≡ At t → length (book (fallsIn l t)) ≡ W → length ticket ≡ ticketBytes
+      → ticketSound (ticketOf ticket) ≡ true → logSound l book ≡ true → Added ticket book (at (fallsIn l t) (withTicket l book ticket t) book)
+  added w book ticket t end page whole right sound =
+      let after = at (fallsIn l t) (withTicket l book ticket t) book in
+      let put = with-bytes l w book ticket t page whole in
+      record {
+        place = t;
+        end = end;
+        tickets = put;
+        pages = λ i other. at-other (fallsIn l t) (withTicket l book ticket t) book i other;
+        grows = λ clear. grown l ticket t book after end put right clear sound;
+      }
+
+  add-done : Within l → (lost : ℕ) (ticket : List ℕ) (a : ℕ) (x : World) → Inv l (x .images) (x .book)
+      → addVerdict x lost ticket a ≡ done → Added ticket (x .book) (afterAdd x lost ticket a .book)
+  unfolding called ended addCall booked completed whenFound
+  add-done w lost ticket a x f e =
+      let s = x .images in
+      let passed = done-passed (checked (addRows l s lost ticket)) (reading (logReads l s lost)) a (addSteps l lost ticket) s e in
+      let o = add-accepted l s lost ticket passed .1 in
+      let (t, found) = o .end in
+      let end = sym (end-same l w (contents l s noChip) (x .book) (f .reads)) ∙ found in
+      let sound = sym (sound-same l w (contents l s noChip) (x .book) (f .reads)) ∙ o .log in
+      let page = page-fits l w t (end-fits l (x .book) t end) in
+      let whole = ap length (sym (f .reads (fallsIn l t) page)) ∙ contents-whole l w s (f .sound) (fallsIn l t) page in
+      rw (e, end) (added w (x .book) ticket t end whole (o .whole) (o .sound) sound)
+
+  -- an addition that is cut or refused
+  add-not-done : (lost : ℕ) (ticket : List ℕ) (a : ℕ) (v : Verdict) → v ≢ done → (book : Book) → booked l (add-call lost ticket a) v book ≡ book
+  unfolding booked completed
+  add-not-done lost ticket a done d book = absurd (d refl)
+  add-not-done lost ticket a cut d book = when-same (logEnd l book) book
+  add-not-done lost ticket a refused d book = when-same (logEnd l book) book
+
+  add-keeps : (x : World) (lost : ℕ) (ticket : List ℕ) (a : ℕ) → addVerdict x lost ticket a ≢ done → afterAdd x lost ticket a .book ≡ x .book
+  unfolding called
+  add-keeps x lost ticket a d = add-not-done lost ticket a (addVerdict x lost ticket a) d (x .book)
+
+  -- one call more; and calls that name the chip that is taken, which leave the book
+  one-more : (first : List Call) (call : Call) (x : World) → calledAll l (first ++ (call ∷ [])) x ≡ called l call (calledAll l first x)
+  unfolding calledAll
+  one-more [] call x = refl
+  one-more (c ∷ first) call x = one-more first call (called l c x)
+
+  second-keeps : Usable l → (c : ℕ) → c ≤ N → (second : List Call) → allName c second → (x : World) → calledAll l second x .book ≡ x .book
+  unfolding calledAll
+  second-keeps u c chip [] naming x = refl
+  second-keeps u c chip (call ∷ second) naming x =
+      second-keeps u c chip second (naming .1) (called l call x) ∙ call-stays l u c chip call (naming .0) x .1
+
+  module _ (some : 1 ≤ l .D) (narrow : l .D ≤ 4) where
+    found : AfterBothLists l (FindsTheBook l)
+    found = owed-too (ReadsTheBook l) (FindsTheBook l) (λ f. finds-book (usable l some narrow f .within)) (demand-3 l some narrow)
+
+    left : LeavesTheLog
+    unfolding chipTaken
+    left f first lost ticket a d c chip bytes whole second naming lot bag =
+        let y = chipTaken l c bytes (afterAdd (reached f first) lost ticket a) in
+        rw (
+          one-more first (add-call lost ticket a) (start l f),
+          second-keeps (usable l some narrow f) c chip second naming y ∙ add-keeps (reached f first) lost ticket a d,
+        ) at
+        (found .oneChipTaken f (first ++ (add-call lost ticket a ∷ [])) c chip bytes whole second naming lot bag)
+
+    pub tickets-kept : TicketsKept
+    tickets-kept = record {
+      finds = found;
+      adds = λ f first lost ticket a. add-done (usable l some narrow f .within) lost ticket a (reached f first) (first-holds l some narrow f first);
+      keeps = add-keeps;
+      leaves = left;
+    }

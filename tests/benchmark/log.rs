@@ -1,0 +1,177 @@
+//! A log of tickets that fills half of a store, and the plain ways to go over its pages.
+
+use crate::random::Random;
+use crate::reference::*;
+use std::hint::black_box;
+
+/// Bags to a lot.
+const BAGS: usize = 40;
+/// One ticket in so many withdraws a bag weighed before, and as many weigh one again.
+const AGAIN_ONE_IN: usize = 16;
+
+/// How far the log of a store goes.
+#[derive(Clone, Copy)]
+pub struct Log {
+    shape: Shape,
+    /// The stripe of its last page, which is member 0 there.
+    pub end: usize,
+    /// Pages that are read to its end.
+    pub pages: usize,
+    pub tickets: usize,
+}
+
+impl Log {
+    /// Half of the pages are full of tickets, and the next one is half full; of a page for one ticket, empty.
+    pub fn of(shape: Shape) -> Log {
+        let end = shape.s / 2;
+        let (full, to_a_page) = (end * shape.n, shape.w / TICKET_BYTES);
+        Log { shape, end, pages: full + 1, tickets: full * to_a_page + to_a_page / 2 }
+    }
+
+    /// The pages of the log, end to end.
+    pub fn content(self, random: &mut Random) -> Vec<u8> {
+        let mut content = Vec::with_capacity(self.pages * self.shape.w);
+        for number in 0..self.tickets {
+            content.extend(self.ticket(random, number).to_bytes());
+        }
+        content.resize(self.pages * self.shape.w, 0);
+        content
+    }
+
+    /// Lot after lot each bag is weighed. Now and then one comes again, but for those of the first lot; the last ticket
+    /// is a weight.
+    fn ticket(self, random: &mut Random, number: usize) -> Ticket {
+        let again = if number > BAGS && number + 1 < self.tickets { random.below(AGAIN_ONE_IN) } else { 2 };
+        let of = if again < 2 { random.between(BAGS, number - 1) } else { number };
+        let (lot, bag) = ((of / BAGS) as u32, (of % BAGS) as u16);
+        let (gross, tare) = (random.between(40_000, 60_000) as u32, random.between(200, 900) as u32);
+        match again {
+            0 => Ticket { kind: WITHDRAWAL, zero: 0, bag, lot, gross: 0, tare: 0 },
+            _ => Ticket { kind: WEIGHT, zero: 0, bag, lot, gross, tare },
+        }
+    }
+
+    pub fn ticket_at(self, view: View, number: usize) -> Ticket {
+        let at = number * TICKET_BYTES;
+        Ticket::from_bytes(&self.page(view, at / self.shape.w)[at % self.shape.w..][..TICKET_BYTES])
+    }
+
+    /// A page as it lies on its chip.
+    fn page(self, view: View<'_>, page: usize) -> &[u8] {
+        let (stripe, member) = (page / self.shape.n, page % self.shape.n);
+        let current = view.record(stripe).current[member];
+        view.data(self.shape.member_chip(stripe, member), current as usize)
+    }
+}
+
+/// A plain way to go over the log's pages in their order, each from where it lies.
+#[derive(Clone, Copy, PartialEq, Eq)]
+pub enum Pass {
+    /// Each is copied to its place in a buffer as long as the log.
+    Copy,
+    /// Each page that a walk reads is copied to the same page of memory.
+    Reads,
+    /// The same with a chip lost.
+    LostReads,
+    /// The same, but pages that are gathered are XORed there.
+    LostGathered,
+}
+
+impl Pass {
+    /// The column that it has in a table.
+    pub fn column(self) -> usize {
+        match self {
+            Pass::Copy => 0,
+            Pass::Reads | Pass::LostReads => 1,
+            Pass::LostGathered => 2,
+        }
+    }
+}
+
+/// A page that a walk reads: where it lies, and whether it is added to one read before.
+struct Read {
+    at: usize,
+    added: bool,
+}
+
+/// What the passes go by, and where they copy to.
+pub struct Passes {
+    shape: Shape,
+    reads: Vec<Read>,
+    lost_reads: Vec<Read>,
+    copy: Vec<u8>,
+    page: Vec<u8>,
+}
+
+impl Passes {
+    pub fn new(view: View, lost: usize) -> Passes {
+        let shape = view.shape;
+        let log = Log::of(shape);
+        let reads = |lost| (0..log.pages).flat_map(|page| reads(view, page, lost)).collect();
+        let mut passes = Passes {
+            shape,
+            reads: reads(None),
+            lost_reads: reads(Some(lost)),
+            copy: vec![0; log.pages * shape.w],
+            page: vec![0; shape.w],
+        };
+        passes.run(&view.images.chips, Pass::Copy);
+        let mut pages = passes.copy.chunks_exact(shape.w).enumerate();
+        assert!(pages.all(|(page, copy)| copy == log.page(view, page)), "a copy of the log");
+        passes
+    }
+
+    /// How many pages a pass goes over.
+    pub fn reads(&self, pass: Pass) -> usize {
+        match pass {
+            Pass::Copy | Pass::Reads => self.reads.len(),
+            Pass::LostReads | Pass::LostGathered => self.lost_reads.len(),
+        }
+    }
+
+    pub fn run(&mut self, chips: &[u8], pass: Pass) {
+        let Passes { shape: Shape { w, .. }, reads, lost_reads, copy, page } = self;
+        let data = |read: &Read| &chips[read.at..read.at + *w];
+        match pass {
+            Pass::Copy => {
+                let places = copy.chunks_exact_mut(*w);
+                reads.iter().zip(places).for_each(|(read, place)| place.copy_from_slice(data(read)));
+                black_box(copy);
+            }
+            Pass::Reads => reads.iter().for_each(|read| to_page(page, data(read), false)),
+            Pass::LostReads => lost_reads.iter().for_each(|read| to_page(page, data(read), false)),
+            Pass::LostGathered => lost_reads.iter().for_each(|read| to_page(page, data(read), read.added)),
+        }
+    }
+}
+
+fn to_page(page: &mut [u8], data: &[u8], added: bool) {
+    match added {
+        true => page.iter_mut().zip(data).for_each(|(byte, other)| *byte ^= other),
+        false => page.copy_from_slice(data),
+    }
+    black_box(page);
+}
+
+/// The reads of one page of the log; a slot is none.
+fn reads(view: View, page: usize, lost: Option<usize>) -> Vec<Read> {
+    let shape = view.shape;
+    let (stripe, member) = (page / shape.n, page % shape.n);
+    let record = view.record(stripe);
+    let chip = |m: usize| shape.member_chip(stripe, m);
+    let others = (0..shape.n).filter(|&m| m != member);
+    let places: Vec<(usize, u16)> = if lost != Some(chip(member)) {
+        vec![(chip(member), record.current[member])]
+    } else if record.bit(member) {
+        others.filter(|&m| record.bit(m)).map(|m| (chip(m), record.current[m])).collect()
+    } else {
+        let under = |m: usize| if record.bit(m) { record.old[m] } else { record.current[m] };
+        let parity = (shape.parity_chip(stripe), record.parity);
+        [parity].into_iter().chain(others.map(|m| (chip(m), under(m)))).collect()
+    };
+    let read = |(i, (chip, page)): (usize, (usize, u16))| Read {
+        at: shape.page_at(chip, page as usize),
+        added: i > 0,
+    };
+    places.into_iter().enumerate().map(read).collect()
+}
