@@ -63,15 +63,10 @@ fn geometry(random: &mut Random) -> Geometry {
 /// Images and the chip that is lost: sound, or with one condition broken, or a byte changed, or other bytes
 /// on the lost chip.
 fn images(random: &mut Random, g: Geometry, shape: Shape) -> (Images, u64) {
-    let mut images = match random.one_in(2) && shape.pages() < 100 {
-        true => {
-            let mut images = generator::by_calls(random, g, shape);
-            if random.one_in(2) {
-                write_log(random, g, shape, &mut images);
-            }
-            images
-        }
-        false => {
+    let mut images = match random.below(3) {
+        0 if shape.pages() < 100 => generator::by_calls(random, g, shape),
+        1 if shape.pages() < 100 => with_log(random, g, shape),
+        _ => {
             let phase = random.pick(&[0, 0, 1, 2, 2]);
             generator::sound(random, shape, phase)
         }
@@ -97,22 +92,24 @@ fn images(random: &mut Random, g: Geometry, shape: Shape) -> (Images, u64) {
     (images, chip as u64)
 }
 
-/// Writes tickets into the first pages, with one at times that breaks a rule, and then any page.
-fn write_log(random: &mut Random, g: Geometry, shape: Shape, images: &mut Images) {
-    reference::open(g, images, NO_CHIP, ALL);
+/// What calls leave, with tickets in the first pages, of which one breaks a rule at times, and then any page.
+fn with_log(random: &mut Random, g: Geometry, shape: Shape) -> Images {
+    let mut images = generator::by_calls(random, g, shape);
+    reference::open(g, &mut images, NO_CHIP, ALL);
     let filled = random.below((shape.n * shape.s).min(MOST_FILLED) + 1);
     for page in 0..filled {
         let mut data = tickets::tickets(random, shape.w / TICKET_BYTES);
         if random.one_in(40) {
             tickets::spoil(random, &mut data);
         }
-        reference::write(g, images, NO_CHIP, page as u64, &data, ALL);
+        reference::write(g, &mut images, NO_CHIP, page as u64, &data, ALL);
     }
     let data = tickets::ticket_page(random, shape.w);
-    reference::write(g, images, NO_CHIP, filled as u64, &data, ALL);
+    reference::write(g, &mut images, NO_CHIP, filled as u64, &data, ALL);
     if random.one_in(4) {
-        generator::leave_collection(random, g, shape, images);
+        generator::leave_collection(random, g, shape, &mut images);
     }
+    images
 }
 
 /// A call with all its arguments.

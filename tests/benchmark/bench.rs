@@ -13,9 +13,6 @@ use crate::rows::{Row, LOST};
 use crate::setup::{Setup, Steps};
 use crate::trio::{fail, By, Times, Trio};
 
-/// Columns for passes over a log.
-pub const COLUMNS: usize = 3;
-
 /// Best times of a row in microseconds, and the counts that the call answers.
 #[derive(Clone, Copy)]
 pub struct Measured {
@@ -24,8 +21,8 @@ pub struct Measured {
     pub reference: f64,
     pub third: f64,
     pub floor: f64,
-    /// In the columns that the passes of the row have.
-    pub passes: [Option<f64>; COLUMNS],
+    /// Of each kind of pass, if the row has it.
+    pub passes: [Option<f64>; 3],
     pub settled: bool,
     pub counts: Status,
 }
@@ -84,9 +81,9 @@ impl Bench {
     fn measured(&self, taken: &[Taken]) -> Vec<Measured> {
         let measured = |(known, taken): (&Known, &Taken)| {
             let best = |turn: usize| taken.best[turn].first;
-            let mut passes = [None; COLUMNS];
-            for (i, pass) in known.row.passes.iter().enumerate() {
-                passes[pass.column()] = Some(best(FLOOR + 1 + i));
+            let mut passes = [None; 3];
+            for (i, &pass) in known.row.passes.iter().enumerate() {
+                passes[pass as usize] = Some(best(FLOOR + 1 + i));
             }
             Measured {
                 row: known.row,
@@ -121,8 +118,8 @@ impl Known {
     /// A pass goes over as many pages as the call counts.
     fn check_passes(&self, floor: &Floor) {
         let counts = self.answer.0;
-        if self.row.passes.iter().any(|&pass| floor.reads(pass) as u64 != counts.reads) {
-            fail(&format!("{}: {counts:?}, and other passes", self.row.name));
+        if !self.row.passes.is_empty() && floor.passed(self.row.scan) != counts.reads {
+            fail(&format!("{}: {counts:?}, but a pass has other reads", self.row.name));
         }
     }
 }
@@ -182,7 +179,7 @@ impl Race for Sides<'_> {
                 None
             }
             pass => {
-                self.floor.pass(row.passes[pass - FLOOR - 1]);
+                self.floor.pass(row.scan, row.passes[pass - FLOOR - 1]);
                 None
             }
         };

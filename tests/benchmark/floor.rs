@@ -17,6 +17,13 @@ pub enum Scan {
     Nothing,
 }
 
+impl Scan {
+    /// Whether a chip is lost.
+    pub fn is_lost(self) -> bool {
+        matches!(self, Scan::Without(_))
+    }
+}
+
 /// Images of its own, so that no call finds in the caches what the floor has brought there.
 pub struct Floor {
     copies: Vec<Copy>,
@@ -45,14 +52,14 @@ impl Floor {
         black_box(self.copies[0].scan(scan));
     }
 
-    pub fn pass(&mut self, pass: Pass) {
+    pub fn pass(&mut self, scan: Scan, pass: Pass) {
         let chips = black_box(&self.copies[0].images.chips);
-        self.passes.as_mut().expect("images with a log").run(chips, pass);
+        self.passes.as_mut().expect("images with a log").run(chips, pass, scan.is_lost());
     }
 
     /// How many pages a pass goes over.
-    pub fn reads(&self, pass: Pass) -> usize {
-        self.passes.as_ref().expect("images with a log").reads(pass)
+    pub fn passed(&self, scan: Scan) -> u64 {
+        self.passes.as_ref().expect("images with a log").count(scan.is_lost()) as u64
     }
 
     pub fn put(&mut self, patch: &Patch) {

@@ -64,33 +64,20 @@ impl Log {
     }
 }
 
-/// A plain way to go over the log's pages in their order, each from where it lies.
+/// A plain way to go over the pages that a walk reads, in its order, each from where it lies.
 #[derive(Clone, Copy, PartialEq, Eq)]
 pub enum Pass {
-    /// Each is copied to its place in a buffer as long as the log.
+    /// Each is copied to a place of its own, end to end.
     Copy,
-    /// Each page that a walk reads is copied to the same page of memory.
-    Reads,
-    /// The same with a chip lost.
-    LostReads,
-    /// The same, but pages that are gathered are XORed there.
-    LostGathered,
-}
-
-impl Pass {
-    /// The column that it has in a table.
-    pub fn column(self) -> usize {
-        match self {
-            Pass::Copy => 0,
-            Pass::Reads | Pass::LostReads => 1,
-            Pass::LostGathered => 2,
-        }
-    }
+    /// Each is copied to the same page.
+    OnePage,
+    /// The first of those that a page is gathered from is copied to the same page, the others are XORed there.
+    Gathered,
 }
 
 /// A page that a walk reads: where it lies, and whether it is added to one read before.
 struct Read {
-    at: usize,
+    at: u32,
     added: bool,
 }
 
@@ -108,39 +95,33 @@ impl Passes {
         let shape = view.shape;
         let log = Log::of(shape);
         let reads = |lost| (0..log.pages).flat_map(|page| reads(view, page, lost)).collect();
-        let mut passes = Passes {
-            shape,
-            reads: reads(None),
-            lost_reads: reads(Some(lost)),
-            copy: vec![0; log.pages * shape.w],
-            page: vec![0; shape.w],
-        };
-        passes.run(&view.images.chips, Pass::Copy);
-        let mut pages = passes.copy.chunks_exact(shape.w).enumerate();
+        let (reads, lost_reads): (Vec<Read>, Vec<Read>) = (reads(None), reads(Some(lost)));
+        let copy = vec![1; reads.len().max(lost_reads.len()) * shape.w];
+        let mut passes = Passes { shape, reads, lost_reads, copy, page: vec![1; shape.w] };
+        passes.run(&view.images.chips, Pass::Copy, false);
+        let mut pages = passes.copy.chunks_exact(shape.w).take(log.pages).enumerate();
         assert!(pages.all(|(page, copy)| copy == log.page(view, page)), "a copy of the log");
         passes
     }
 
-    /// How many pages a pass goes over.
-    pub fn reads(&self, pass: Pass) -> usize {
-        match pass {
-            Pass::Copy | Pass::Reads => self.reads.len(),
-            Pass::LostReads | Pass::LostGathered => self.lost_reads.len(),
-        }
+    /// How many pages are read, with the chip lost or with none.
+    pub fn count(&self, lost: bool) -> usize {
+        if lost { &self.lost_reads } else { &self.reads }.len()
     }
 
-    pub fn run(&mut self, chips: &[u8], pass: Pass) {
+    pub fn run(&mut self, chips: &[u8], pass: Pass, lost: bool) {
         let Passes { shape: Shape { w, .. }, reads, lost_reads, copy, page } = self;
-        let data = |read: &Read| &chips[read.at..read.at + *w];
+        let reads = if lost { lost_reads } else { reads }.iter();
+        let data = |read: &Read| &chips[read.at as usize..][..*w];
         match pass {
             Pass::Copy => {
-                let places = copy.chunks_exact_mut(*w);
-                reads.iter().zip(places).for_each(|(read, place)| place.copy_from_slice(data(read)));
+                reads
+                    .zip(copy.chunks_exact_mut(*w))
+                    .for_each(|(read, place)| place.copy_from_slice(data(read)));
                 black_box(copy);
             }
-            Pass::Reads => reads.iter().for_each(|read| to_page(page, data(read), false)),
-            Pass::LostReads => lost_reads.iter().for_each(|read| to_page(page, data(read), false)),
-            Pass::LostGathered => lost_reads.iter().for_each(|read| to_page(page, data(read), read.added)),
+            Pass::OnePage => reads.for_each(|read| to_page(page, data(read), false)),
+            Pass::Gathered => reads.for_each(|read| to_page(page, data(read), read.added)),
         }
     }
 }
@@ -169,9 +150,9 @@ fn reads(view: View, page: usize, lost: Option<usize>) -> Vec<Read> {
         let parity = (shape.parity_chip(stripe), record.parity);
         [parity].into_iter().chain(others.map(|m| (chip(m), under(m)))).collect()
     };
-    let read = |(i, (chip, page)): (usize, (usize, u16))| Read {
-        at: shape.page_at(chip, page as usize),
-        added: i > 0,
+    let read = |(i, (chip, page)): (usize, (usize, u16))| {
+        let at = shape.page_at(chip, page as usize);
+        Read { at: at.try_into().expect("chips below 4 GiB"), added: i > 0 }
     };
     places.into_iter().enumerate().map(read).collect()
 }

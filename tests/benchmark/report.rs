@@ -2,6 +2,7 @@
 
 use crate::bench::Measured;
 use crate::grid::Grid;
+use crate::log::Pass;
 use crate::owned::THIRD_NAME;
 use crate::plans::{Kind, Plan};
 use crate::reference::Geometry;
@@ -155,9 +156,9 @@ fn others(table: &Table) -> Vec<Other> {
         vec![("reference", |at| Some(at.reference)), (THIRD_NAME, |at| Some(at.third))];
     if table.walks {
         others.extend::<[Other; 3]>([
-            ("copy", |at| at.passes[0]),
-            ("reads", |at| at.passes[1]),
-            ("gathered", |at| at.passes[2]),
+            ("copy", |at| at.passes[Pass::Copy as usize]),
+            ("one page", |at| at.passes[Pass::OnePage as usize]),
+            ("gathered", |at| at.passes[Pass::Gathered as usize]),
         ]);
     } else if table.plan.kind != Kind::Refused {
         others.push(("floor", |at| Some(at.floor)));

@@ -136,26 +136,24 @@ pub const LOST: usize = 0;
 /// Calls that walk the log, each with one that does as much but for the walk.
 pub fn tickets(view: View) -> Vec<Row> {
     let log = Log::of(view.shape);
-    let (first, last) = (log.ticket_at(view, 0), log.ticket_at(view, log.tickets - 1));
-    let none = Ticket { kind: WITHDRAWAL, lot: u32::MAX, ..last };
+    let Ticket { lot, bag, gross, tare, .. } = log.ticket_at(view, log.tickets - 1);
+    let standing = [1, gross as u64, tare as u64];
+    let page = (log.end * view.shape.n) as u64;
     let plain = |name, call| row(name, Setup::Full, call);
     let walk = |name, call, without| Row { without_walk: Some(without), ..plain(name, call) };
-    let find = |name, lost, ticket: Ticket, without| {
-        let Ticket { kind, lot, bag, gross, tare, .. } = ticket;
-        let standing = if kind == WEIGHT { [1, gross as u64, tare as u64] } else { [0; 3] };
-        Row { standing, ..walk(name, Call::Find { lost, lot, bag }, without) }
+    let find = |name, lost, without, passes| Row {
+        standing,
+        passes,
+        ..walk(name, Call::Find { lost, lot, bag }, without)
     };
-    let page = (log.end * view.shape.n) as u64;
     let (open, open_lost) = ("open", "open with a chip lost");
     let (write, write_cut) = ("write", "write with no allowance");
-    let (passes, lost_passes) = (&[Pass::Copy, Pass::Reads], &[Pass::LostReads, Pass::LostGathered]);
+    let lost = LOST as u64;
     vec![
         plain(open, Call::Open { lost: NO_CHIP }),
-        Row { passes, ..find("find, the first ticket stands", NO_CHIP, first, open) },
-        find("find, the last ticket stands", NO_CHIP, last, open),
-        find("find, there is none", NO_CHIP, none, open),
-        plain(open_lost, Call::Open { lost: LOST as u64 }),
-        Row { passes: lost_passes, ..find("find with a chip lost", LOST as u64, last, open_lost) },
+        find("find", NO_CHIP, open, &[Pass::Copy, Pass::OnePage]),
+        plain(open_lost, Call::Open { lost }),
+        find("find with a chip lost", lost, open_lost, &[Pass::Copy, Pass::OnePage, Pass::Gathered]),
         Row { answer: CUT, ..plain(write_cut, Call::WriteCut { page }) },
         Row { answer: CUT, ..walk("add with no allowance", Call::AddCut, write_cut) },
         plain(write, Call::Write { page }),

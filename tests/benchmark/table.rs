@@ -79,27 +79,29 @@ const TO_FLOOR: Ratio = Ratio {
     value: |_, measured, _| Some(measured.library / measured.floor),
 };
 
-/// Of a walk over a plain copy of the log's pages.
+/// Of a walk over a plain copy of the pages that it reads, with a chip lost those that it rebuilds from too.
 const TO_COPY: Ratio = Ratio {
     head: "/copy",
     of: "copy",
-    aim: |table, _| (table.setting.w >= 512).then_some(3.0),
-    value: |_, measured, _| Some(measured.library / measured.passes[0]?),
+    aim: |table, row| match row.scan.is_lost() {
+        true => Some(2.0),
+        false => (table.setting.w >= 512).then_some(3.0),
+    },
+    value: |_, measured, _| Some(measured.library / measured.passes[Pass::Copy as usize]?),
 };
 
-/// Of a walk over the reads that it counts, one by one.
-const TO_READS: Ratio = Ratio {
-    head: "/reads",
-    of: "reads",
-    aim: |_, row| row.passes.contains(&Pass::LostReads).then_some(2.0),
-    value: |_, measured, _| Some(measured.library / measured.passes[1]?),
+const TO_ONE_PAGE: Ratio = Ratio {
+    head: "/one page",
+    of: "copy to one page",
+    aim: |_, _| None,
+    value: |_, measured, _| Some(measured.library / measured.passes[Pass::OnePage as usize]?),
 };
 
 const TO_GATHERED: Ratio = Ratio {
     head: "/gathered",
-    of: "reads gathered",
+    of: "pages gathered",
     aim: |_, _| None,
-    value: |_, measured, _| Some(measured.library / measured.passes[2]?),
+    value: |_, measured, _| Some(measured.library / measured.passes[Pass::Gathered as usize]?),
 };
 
 /// Over that of another row on the same store.
@@ -166,7 +168,7 @@ impl Table {
     pub fn ratios(&self) -> Vec<Ratio> {
         let mut ratios = match self.plan.kind {
             Kind::Refused => vec![TO_REFERENCE, TO_THIRD],
-            _ if self.walks => vec![TO_REFERENCE, TO_THIRD, TO_COPY, TO_READS, TO_GATHERED],
+            _ if self.walks => vec![TO_REFERENCE, TO_THIRD, TO_COPY, TO_ONE_PAGE, TO_GATHERED],
             _ => vec![TO_REFERENCE, TO_THIRD, TO_FLOOR],
         };
         if self.measured().any(|measured| measured.row.beside.is_some()) {

@@ -6,7 +6,7 @@ use crate::owned::{Answer, Calls, REFERENCE, THIRD};
 use crate::patch::Patch;
 use crate::placed;
 use crate::random::Random;
-use crate::reference::{Geometry, Images, Shape, Ticket, DONE, NONE, NO_CHIP, TICKET_BYTES, WEIGHT};
+use crate::reference::{Geometry, Images, Shape, Ticket, DONE, NONE, NO_CHIP, WEIGHT};
 use std::hint::black_box;
 use std::process::exit;
 

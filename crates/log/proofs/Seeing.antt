@@ -1,21 +1,24 @@
 -- Tickets looked at one after the other: how many are sound, and what stands after them.
-use Prim.Native.Nat.{ℕ, zero, suc, _+_, _-_, _*_, _<_}
+use Prim.Native.Nat.{ℕ, zero, suc, _+_, _-_, _*_, _≤_, _<_}
 use native.Mathlib.Nat.{add-zero, add-suc}
 use native.Mathlib.Numerals.{add-one}
 use native.Mathlib.Omega.{arith}
 use mathlib.Core.Path.{_≡_, refl, sym, ap, _∙_}
-use mathlib.Core.Bool.{true, cond}
+use mathlib.Core.Bool.{Bool, true, false, cond, _||_}
 use mathlib.Core.List.{List}
-use lib.ListN.{getD}
+use lib.ListN.{length, getD}
+use Rattle.ranges.specs.declared.Found.{Found}
+use Rattle.ranges.specs.declared.Found.the-variants.{At, Nothing}
 use Rattle.ranges.specs.Look.{allBelow, lastBelow, whenFound}
-use Rattle.ranges.proofs.Looks.{by-test, by-order, all-true, all-at}
+use Rattle.ranges.proofs.Looks.{by-test, by-order, all-true, all-at, last-at}
 use Rattle.bytes.specs.Number.{number}
 use Rattle.bytes.specs.Units.{part, unit}
 use Rattle.bytes.proofs.Units.{part-unit, getD-unit}
 use Rattle.rules.specs.declared.Ticket.{Ticket}
 use Rattle.rules.specs.declared.Standing.{Standing}
 use Rattle.rules.specs.Tickets.{ticketBytes, ticketOf, ticketSound, isFor, weightOf}
-use Rattle.log.specs.Walks.{Seen}
+use Rattle.log.specs.declared.Shown.{Shown}
+use Rattle.log.specs.Walks.{Seen, ticketsIn, PageShows}
 
 -- the fields of ticket i of a page, where they lie
 pub ticket-is : (page : List ℕ) (i : ℕ)
@@ -40,26 +43,39 @@ ticket-is page i =
       part-unit 16 i 12 4 page (omega arith),
     )
 
-module _ (x : ℕ → Ticket) (lot bag : ℕ) (first : Standing) where
-  -- what stands after n tickets
-  abbrev pub stood : ℕ → Standing
-  stood n = whenFound (lastBelow n (λ t. isFor lot bag (x t))) (λ t. weightOf (x t)) first
+-- a number more, which is the highest that passes if it does
+last-by : (found fits : Bool) (n latest : ℕ) {r : Found} → cond found (At latest) Nothing ≡ r
+    → cond (found || fits) (At (cond fits n latest)) Nothing ≡ cond fits (At n) r
+last-by true true n latest e = refl
+last-by true false n latest e = e
+last-by false true n latest e = refl
+last-by false false n latest e = e
 
-  stood-more : (n : ℕ) → stood (suc n) ≡ cond (isFor lot bag (x n)) (weightOf (x n)) (stood n)
-  unfolding lastBelow whenFound
-  stood-more n = by-test (isFor lot bag (x n)) (λ e. rw e) (λ e. rw e)
-
-  pub seen-none : Seen x lot bag first 0 first
-  unfolding allBelow lastBelow whenFound
-  seen-none = record { sound = refl; stands = refl }
+module _ (x : ℕ → Ticket) (lot bag : ℕ) where
+  pub seen-none : Seen x lot bag 0 false 0
+  unfolding allBelow lastBelow
+  seen-none = record { sound = refl; told = refl }
 
   -- one ticket more
-  pub seen-more : {n : ℕ} {last : Standing} → Seen x lot bag first n last → ticketSound (x n) ≡ true
-      → Seen x lot bag first (n + 1) (cond (isFor lot bag (x n)) (weightOf (x n)) last)
-  unfolding allBelow
-  seen-more {n} {last} s h =
-      rw add-one
-      (record { sound = rw (s .sound, h); stands = rw (s .stands) (sym (stood-more n)) })
+  pub seen-more : {n latest : ℕ} {found : Bool} → Seen x lot bag n found latest → ticketSound (x n) ≡ true
+      → Seen x lot bag (n + 1) (found || isFor lot bag (x n)) (cond (isFor lot bag (x n)) n latest)
+  unfolding allBelow lastBelow
+  seen-more {n} {latest} {found} s h =
+      rw add-one (record { sound = rw (s .sound, h); told = last-by found (isFor lot bag (x n)) n latest (s .told) })
+
+  -- what stands after n tickets, where `first` stood
+  abbrev pub stood : Standing → ℕ → Standing
+  stood first n = whenFound (lastBelow n (λ t. isFor lot bag (x t))) (λ t. weightOf (x t)) first
+
+  stood-more : (first : Standing) (n : ℕ) → stood first (suc n) ≡ cond (isFor lot bag (x n)) (weightOf (x n)) (stood first n)
+  unfolding lastBelow whenFound
+  stood-more first n = by-test (isFor lot bag (x n)) (λ e. rw e) (λ e. rw e)
+
+  -- as the code tells it
+  pub stood-is : {n latest : ℕ} {found : Bool} (first : Standing) → Seen x lot bag n found latest
+      → cond found (weightOf (x latest)) first ≡ stood first n
+  unfolding whenFound
+  stood-is {found = found} first s = by-test found (λ e. rw (e, sym (rw e at (s .told)))) (λ e. rw (e, sym (rw e at (s .told))))
 
 module _ (lot bag : ℕ) where
   stood-cong : (x y : ℕ → Ticket) (first : Standing) (n : ℕ) → ((k : ℕ) → k < n → x k ≡ y k) → stood x lot bag first n ≡ stood y lot bag first n
@@ -74,10 +90,19 @@ module _ (lot bag : ℕ) where
   stood-append x first a (suc n) =
       rw (add-suc, stood-more x lot bag first (a + n), stood-more (λ k. x (a + k)) lot bag (stood x lot bag first a) n, stood-append x first a n)
 
+  -- the first n tickets are sound, and let this stand
+  pub record StandsTo (x : ℕ → Ticket) (first : Standing) (n : ℕ) (last : Standing) : Type 0 where
+    pub sound : allBelow n (λ t. ticketSound (x t)) ≡ true
+    pub stands : last ≡ stood x lot bag first n
+
+  pub stands-none : (x : ℕ → Ticket) (first : Standing) → StandsTo x first 0 first
+  unfolding allBelow lastBelow whenFound
+  stands-none x first = record { sound = refl; stands = refl }
+
   -- the tickets y of a page behind a others
-  pub seen-page : {x y : ℕ → Ticket} {first mid last : Standing} {a n : ℕ} → ((k : ℕ) → k < n → x (a + k) ≡ y k)
-      → Seen x lot bag first a mid → Seen y lot bag mid n last → Seen x lot bag first (a + n) last
-  seen-page {x} {y} {first} {mid} {last} {a} {n} h s t = record {
+  pub seen-page : {x y : ℕ → Ticket} {first mid last : Standing} {a n latest : ℕ} {found : Bool} → ((k : ℕ) → k < n → x (a + k) ≡ y k)
+      → StandsTo x first a mid → Seen y lot bag n found latest → last ≡ stood y lot bag mid n → StandsTo x first (a + n) last
+  seen-page {x} {y} {first} {mid} {last} {a} {n} h s t e = record {
     sound = all-true (a + n) (λ k. ticketSound (x k)) (λ k b.
         by-order k a
         (λ low. all-at a (λ i. ticketSound (x i)) (s .sound) k low)
@@ -85,8 +110,14 @@ module _ (lot bag : ℕ) where
         let e : a + (k - a) ≡ k = omega arith in
         rw (sym e, h (k - a) (omega arith)) (all-at n (λ i. ticketSound (y i)) (t .sound) (k - a) (omega arith))));
     stands =
-        t .stands
+        e
         ∙ sym (stood-cong (λ k. x (a + k)) y mid n h)
         ∙ ap (λ (z : Standing). stood (λ k. x (a + k)) lot bag z n) (s .stands)
         ∙ sym (stood-append x first a n);
   }
+
+-- the latest ticket is one of the page's
+pub latest-fits : {page : List ℕ} {lot bag : ℕ} {r : Shown} → PageShows page lot bag r → r .found ≡ true → r .latest * ticketBytes + ticketBytes ≤ length page
+latest-fits {page} {lot} {bag} {r} p e =
+    let last : lastBelow (r .kept) (λ t. isFor lot bag (ticketsIn page t)) ≡ At (r .latest) = sym (rw e at (p .seen .told)) in
+    omega (arith, last-at (r .kept) (λ t. isFor lot bag (ticketsIn page t)) (r .latest) last, p .few)

@@ -4,7 +4,7 @@ use native.Mathlib.Nat.{zero-mul, suc-mul, mul-le-mul}
 use native.Mathlib.Numerals.{add-one}
 use native.Mathlib.Omega.{arith}
 use mathlib.Core.Path.{_≡_, refl, sym, ap, _∙_}
-use mathlib.Core.Bool.{true, false, _||_}
+use mathlib.Core.Bool.{true, false, cond, _||_}
 use mathlib.Core.List.{List}
 use lib.Arith.{digits-lt, digits-div, digits-mod}
 use lib.Dec.{eqb}
@@ -25,12 +25,12 @@ use Rattle.rules.specs.declared.Standing.the-variants.{Nothing as NoWeight}
 use Rattle.rules.specs.declared.Origin.{Origin}
 use Rattle.rules.specs.Fetch.{Fetched}
 use Rattle.rules.specs.Read.{fetch, fetchMember}
-use Rattle.rules.specs.Tickets.{ticketBytes, isEmpty, ticketSound}
+use Rattle.rules.specs.Tickets.{ticketBytes, isEmpty, ticketSound, weightOf}
 use Rattle.rules.specs.Log.{perPage, places, fallsIn, bytesAt, ticketAt, contents, logEnd, logLength, logSound, latest, standing, logPages, logReads}
 use Rattle.log.specs.declared.Shown.{Shown}
 use Rattle.log.specs.declared.Walk.{Walk}
-use Rattle.log.specs.Walks.{Seen, ticketsIn, PageShows, Walked, broken, walkOf}
-use Rattle.log.proofs.Seeing.{seen-none, seen-page}
+use Rattle.log.specs.Walks.{ticketsIn, PageShows, Walked, broken, walkOf}
+use Rattle.log.proofs.Seeing.{StandsTo, stands-none, seen-page, stood-is}
 
 -- a sound ticket is not empty
 kind-some : (k : ℕ) → eqb k 1 || eqb k 2 ≡ true → eqb k 0 ≡ false
@@ -51,13 +51,14 @@ module _ (l : Layout) (f : ℕ → List ℕ) where
   module _ (lot bag : ℕ) where
     -- the log's tickets before place n are sound, and let this stand
     abbrev pub SeenTo : ℕ → Standing → Type 0
-    SeenTo n last = Seen (ticketAt l f) lot bag NoWeight n last
+    SeenTo n last = StandsTo lot bag (ticketAt l f) NoWeight n last
 
-    pub seen-to : {i : ℕ} {page : List ℕ} {mid : Standing} {r : Shown} → f i ≡ page → length page ≡ l .W → SeenTo (i * perPage l) mid → PageShows page lot bag mid r
-        → SeenTo (i * perPage l + r .kept) (r .standing)
-    seen-to {i} {page} {mid} {r} e long s p =
+    pub seen-to : {i : ℕ} {page : List ℕ} {mid last : Standing} {r : Shown} → f i ≡ page → length page ≡ l .W → SeenTo (i * perPage l) mid → PageShows page lot bag r
+        → last ≡ cond (r .found) (weightOf (ticketsIn page (r .latest))) mid → SeenTo (i * perPage l + r .kept) last
+    seen-to {i} {page} {mid} {last} {r} e long s p after =
         let few : r .kept ≤ perPage l = rw long at (p .few) in
         seen-page lot bag (λ k h. in-page i k (omega arith) ∙ ap (λ (xs : List ℕ). ticketsIn xs k) e) s (p .seen)
+        (after ∙ stood-is (ticketsIn page) lot bag mid (p .seen))
 
     none-empty : {n : ℕ} {last : Standing} → SeenTo n last → (k : ℕ) → k < n → isEmpty (ticketAt l f k) ≡ false
     none-empty {n} s k h = not-empty (ticketAt l f k) (all-at n (λ t. ticketSound (ticketAt l f t)) (s .sound) k h)
@@ -115,7 +116,7 @@ module _ (l : Layout) (s : Images) (lost lot bag : ℕ) where
   going long = record {
     below = omega arith;
     long = long;
-    seen = rw zero-mul (seen-none (ticketAt l (contents l s lost)) lot bag NoWeight);
+    seen = rw zero-mul (stands-none lot bag (ticketAt l (contents l s lost)) NoWeight);
     counted = refl;
     few = omega arith;
   }
@@ -125,15 +126,14 @@ module _ (l : Layout) (s : Images) (lost lot bag : ℕ) where
     pub inside : i < N * S
     pub long : length page ≡ W
     pub left : contents l s lost i ≡ page
-    pub before : SeenTo l (contents l s lost) lot bag (i * perPage l) last
-    pub seen : SeenTo l (contents l s lost) lot bag (i * perPage l + shown .kept) (shown .standing)
-    pub shows : PageShows page lot bag last shown
+    pub seen : SeenTo l (contents l s lost) lot bag (i * perPage l + shown .kept) (cond (shown .found) (weightOf (ticketsIn page (shown .latest))) last)
+    pub shows : PageShows page lot bag shown
     pub counted : reads + more ≡ readsTo (i + 1)
     pub few : reads + more ≤ 7 * (i + 1)
 
   pub next : {page after : List ℕ} {last : Standing} {reads i more : ℕ} {origin : Origin} {shown : Shown} → Going page last reads i → i < N * S
       → record { bytes = after; reads = more; origin = origin } ≡ fetchMember l s lost (i / N) (i % N) → more ≤ 7 → length after ≡ length page
-      → PageShows after lot bag last shown → Next after last reads i more shown
+      → PageShows after lot bag shown → Next after last reads i more shown
   unfolding fetch
   next {page} {after} {last} {reads} {i} {more} g h got low long shown =
       let is : contents l s lost i ≡ after = sym (ap (λ (x : Fetched). x .bytes) got) in
@@ -141,8 +141,7 @@ module _ (l : Layout) (s : Images) (lost lot bag : ℕ) where
         inside = h;
         long = long ∙ g .long;
         left = is;
-        before = g .seen;
-        seen = seen-to l (contents l s lost) lot bag is (long ∙ g .long) (g .seen) shown;
+        seen = seen-to l (contents l s lost) lot bag is (long ∙ g .long) (g .seen) shown refl;
         shows = shown;
         counted = rw (add-one, sum-more) (ap (λ (n : ℕ). n + more) (g .counted) ∙ ap (λ (n : ℕ). readsTo i + n) (ap (λ (x : Fetched). x .reads) got));
         few = omega (arith, g .few);
@@ -153,15 +152,16 @@ module _ (l : Layout) (s : Images) (lost lot bag : ℕ) where
     ticket-next : shown .kept < perPage l → ticketAt l (contents l s lost) (i * perPage l + shown .kept) ≡ ticketsIn page (shown .kept)
     ticket-next h = in-page l (contents l s lost) i (shown .kept) h ∙ ap (λ (xs : List ℕ). ticketsIn xs (shown .kept)) (x .left)
 
-    pub goes-on : perPage l ≤ shown .kept → Going page (shown .standing) (reads + more) (i + 1)
-    goes-on h =
+    pub goes-on : {next : Standing} → next ≡ cond (shown .found) (weightOf (ticketsIn page (shown .latest))) last → perPage l ≤ shown .kept
+        → Going page next (reads + more) (i + 1)
+    goes-on after h =
         let few : shown .kept ≤ perPage l = rw (x .long) at (x .shows .few) in
         let all : shown .kept ≡ perPage l = omega arith in
         let place : (i + 1) * perPage l ≡ i * perPage l + perPage l = rw (add-one, suc-mul) in
         record {
           below = omega (arith, x .inside);
           long = x .long;
-          seen = rw place (rw all at (x .seen));
+          seen = rw (after, place) (rw all at (x .seen));
           counted = x .counted;
           few = x .few;
         }
@@ -171,15 +171,15 @@ module _ (l : Layout) (s : Images) (lost lot bag : ℕ) where
     pages-few = mul-le-mul (w .members-high) (w .stripes-high)
 
     module _ {page : List ℕ} {last : Standing} {reads i more : ℕ} {shown : Shown} (x : Next page last reads i more shown) where
-      pub walk-ended : shown .ended ≡ true → shown .kept < perPage l
-          → Walked l s lost lot bag (record { sound = true; end = At (i * perPage l + shown .kept); reads = reads + more; standing = shown .standing }) page
+      pub walk-ended : {next : Standing} → next ≡ cond (shown .found) (weightOf (ticketsIn page (shown .latest))) last → shown .ended ≡ true → shown .kept < perPage l
+          → Walked l s lost lot bag (record { sound = true; end = At (i * perPage l + shown .kept); reads = reads + more; standing = next }) page
       unfolding logReads logPages whenFound
-      walk-ended ends h =
+      walk-ended after ends h =
           let inside : shown .kept < length page / ticketBytes = rw (x .long) h in
           let empty = ap (λ (t : Ticket). isEmpty t) (ticket-next x h) ∙ sym (x .shows .ends inside) ∙ ends in
           let t = ended l (contents l s lost) lot bag (x .seen) (digits-lt (x .inside) h) empty in
           record {
-            tells = rw (t .0, t .1, t .2, digits-div i h, x .counted);
+            tells = rw (after, t .0, t .1, t .2, digits-div i h, x .counted);
             page-left = λ p e.
                 sym (x .left) ∙ ap (contents l s lost) (sym (digits-div i h) ∙ ap (λ (t : ℕ). fallsIn l t) (ap (λ (o : Found). whenFound o (λ t. t) 0) e));
             few = omega (arith, x .few, x .inside, pages-few);

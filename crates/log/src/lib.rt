@@ -21,7 +21,7 @@ ghost use Rattle.steps.specs.Allowance.{images};
 ghost use Rattle.rules.specs.Sound.{recordSound};
 ghost use Rattle.rules.specs.Tickets.{ticketBytes, ticketOf, ticketSound, isFor, weightOf};
 ghost use Rattle.codec.specs.Fit.{ChipsFit, RecordsFit, SlotsFit};
-ghost use Rattle.log.specs.Walks.{broken as brokenWalk, PageShows, Walked};
+ghost use Rattle.log.specs.Walks.{broken as brokenWalk, ticketsIn, PageShows, Walked};
 
 // The bytes of a ticket.
 pub const TICKET: usize = 16;
@@ -75,14 +75,18 @@ fn weight_of(t: Ticket) -> Standing
     Standing::Nothing
 }
 
-// What stands for the lot and bag after a ticket more.
-fn after(before: Standing, t: Ticket, lot: u32, bag: u16) -> Standing
-    ensures { λ r. ⌜ r ≡ cond (isFor lot bag t) (weightOf t) before ⌝ }
+// Whether a ticket is for the lot and bag.
+fn is_for(t: Ticket, lot: u32, bag: u16) -> bool
+    ensures { λ r. ⌜ r ≡ isFor lot bag t ⌝ }
 {
-    if (t.lot == lot) & (t.bag == bag) {
-        return weight_of(t);
-    }
-    before
+    (t.lot == lot) & (t.bag == bag)
+}
+
+// The one number or the other.
+fn pick(test: bool, a: usize, b: usize) -> usize
+    ensures { λ r. ⌜ r ≡ cond test a b ⌝ }
+{
+    if test { a } else { b }
 }
 
 // What the tickets of a page show.
@@ -91,16 +95,18 @@ struct Shown {
     kept: usize,
     // the next one, if there is one, ends the log, or else breaks the rules
     ended: bool,
-    // what stands after them for the lot and bag
-    standing: Standing,
+    // some of them are for the lot and bag, and this one is the latest
+    found: bool,
+    latest: usize,
 }
 
-// Looks at the tickets of a page, where `before` stands.
-fn look_at(page: &[u8], lot: u32, bag: u16, before: Standing) -> Shown
-    ensures { λ r. ⌜ PageShows (now (page .entry)) lot bag before r ⌝ }
+// Looks at the tickets of a page. What is carried from one to the next are numbers alone, so that it stays in registers.
+fn look_at(page: &[u8], lot: u32, bag: u16) -> Shown
+    ensures { λ r. ⌜ PageShows (now (page .entry)) lot bag r ⌝ }
 {
     let places = page.len() / TICKET;
-    let mut standing = before;
+    let mut found = false;
+    let mut latest = 0;
     let mut i = 0;
     while i < places {
         let t = ticket_in(page, i);
@@ -108,18 +114,33 @@ fn look_at(page: &[u8], lot: u32, bag: u16, before: Standing) -> Shown
             return Shown {
                 kept: i,
                 ended: t.kind == 0,
-                standing,
+                found,
+                latest,
             };
         }
-        let next = after(standing, t, lot, bag);
-        standing = next;
+        let fits = is_for(t, lot, bag);
+        let later = pick(fits, i, latest);
+        found = found | fits;
+        latest = later;
         i += 1;
     }
     Shown {
         kept: i,
         ended: true,
-        standing,
+        found,
+        latest,
     }
+}
+
+// What stands after the tickets of a page.
+fn stands(page: &[u8], shown: Shown, before: Standing) -> Standing
+    requires { ⌜ (shown .found ≡ true → shown .latest * ticketBytes + ticketBytes ≤ length (now page)) ⌝ }
+    ensures { λ r. ⌜ r ≡ cond (shown .found) (weightOf (ticketsIn (now (page .entry)) (shown .latest))) before ⌝ }
+{
+    if shown.found {
+        return weight_of(ticket_in(page, shown.latest));
+    }
+    before
 }
 
 // What a walk of the log tells.
@@ -169,20 +190,20 @@ pub fn walk_log(
     while i < pages {
         let got = fetch_member(page, chips, records, slots, g, lost, i / n, i % n);
         reads += got.reads;
-        let shown = look_at(page, lot, bag, standing);
+        let shown = look_at(page, lot, bag);
         if !shown.ended {
             return broken();
         }
-        let stands = shown.standing;
+        let next = stands(page, shown, standing);
         if shown.kept < places {
             return Walk {
                 sound: true,
                 end: Found::At(i * places + shown.kept),
                 reads,
-                standing: stands,
+                standing: next,
             };
         }
-        standing = stands;
+        standing = next;
         i += 1;
     }
     Walk {

@@ -7,8 +7,8 @@ use crate::reference::{Refusal, NONE, TICKET_BYTES, WEIGHT, WITHDRAWAL};
 /// The most bytes to a page.
 pub const MOST_PAGE: usize = 4_096;
 
-/// So many tickets are looked at together.
-const TOGETHER: usize = 8;
+/// So many tickets are looked at together, as many as the compiler compares at once.
+const TOGETHER: usize = 4;
 
 type Bytes = [u8; TICKET_BYTES];
 
@@ -44,6 +44,20 @@ impl Wanted {
     }
 }
 
+/// Whether a ticket is not sound, or is wanted. Each comparison is made of all of them at once.
+fn any_special(group: &[Bytes; TOGETHER], wanted: Wanted) -> bool {
+    let mut special = 0;
+    for ticket in group {
+        let (first, lot, gross, tare) = (word(ticket, 0), word(ticket, 4), word(ticket, 8), word(ticket, 12));
+        let kind = first & 0xffff;
+        let withdrawal = (kind == WITHDRAWAL as u32) & (gross == 0);
+        let sound = (((kind == WEIGHT as u32) as u32) | withdrawal as u32) & (tare <= gross) as u32;
+        special |= sound ^ 1;
+        special |= ((lot == wanted.lot) & (first >> 16 == wanted.bag as u32)) as u32;
+    }
+    special != 0
+}
+
 pub fn walk(look: Look, lost: Option<usize>, wanted: Wanted) -> Result<Log, Refusal> {
     let (n, w) = (look.shape.n, look.shape.w);
     let mut work = [0; MOST_PAGE];
@@ -76,22 +90,24 @@ impl Log {
     /// Goes through the tickets of a page, up to the first that is not sound: where that one begins.
     fn see(&mut self, page: &[u8], wanted: Wanted) -> Option<usize> {
         let tickets = page.as_chunks::<TICKET_BYTES>().0;
-        for (i, together) in tickets.chunks(TOGETHER).enumerate() {
-            let (mut sound, mut any) = (true, false);
-            for ticket in together {
-                sound &= is_sound(ticket);
-                any |= wanted.is(ticket);
-            }
-            if !sound | any {
-                let last = together.iter().position(|ticket| !is_sound(ticket));
-                let before = &together[..last.unwrap_or(together.len())];
-                self.standing = before.iter().rfind(|ticket| wanted.is(ticket)).copied().or(self.standing);
-                if let Some(last) = last {
-                    return Some((i * TOGETHER + last) * TICKET_BYTES);
+        let (groups, rest) = tickets.as_chunks::<TOGETHER>();
+        for (i, group) in groups.iter().enumerate() {
+            if any_special(group, wanted) {
+                if let Some(bad) = self.see_each(group, wanted) {
+                    return Some(TICKET_BYTES * (TOGETHER * i + bad));
                 }
             }
         }
-        None
+        let bad = self.see_each(rest, wanted)?;
+        Some(TICKET_BYTES * (TOGETHER * groups.len() + bad))
+    }
+
+    /// The first that is not sound.
+    fn see_each(&mut self, tickets: &[Bytes], wanted: Wanted) -> Option<usize> {
+        let bad = tickets.iter().position(|ticket| !is_sound(ticket));
+        let before = &tickets[..bad.unwrap_or(tickets.len())];
+        self.standing = before.iter().rfind(|ticket| wanted.is(ticket)).copied().or(self.standing);
+        bad
     }
 
     /// Whether a weight stands, gross and tare.

@@ -1,24 +1,24 @@
--- The tickets before place i were sound, and the loop carries what stands after them.
+-- The tickets before place i were sound, and the loop carries the latest of them for the lot and bag.
 use Prim.Native.Nat.{_-_, _≤_}
 use native.Mathlib.Omega.{arith}
 use mathlib.Core.Path.{refl, sym, ap, _∙_}
 use borrow.Author.Needs.{needs}
 use borrow.Author.Tests.{not-true, not-false}
 use Rattle.rules.specs.declared.Ticket.{Ticket}
-use Rattle.rules.specs.Tickets.{ticketSound, isEmpty}
+use Rattle.rules.specs.Tickets.{isEmpty, ticketSound}
 use Rattle.log.specs.Walks.{Seen, ticketsIn}
 use Rattle.log.proofs.Seeing.{seen-none, seen-more}
 use Rattle.log.proofs.look_at.Statement.{statement}
 use Rattle.log.proofs.look_at.Tie as tie
 
 abbrev Inv-loop : tie.InvT-loop
-Inv-loop page lot bag places standing₀ i₀ standing i = (i ≤ places) × Seen (ticketsIn page) lot bag standing₀ i standing
+Inv-loop page lot bag places found₀ latest₀ i₀ found latest i = (i ≤ places) × Seen (ticketsIn page) lot bag i found latest
 
 abbrev μ-loop : tie.MeasureT-loop
-μ-loop page lot bag places standing₀ i₀ standing i = places - i
+μ-loop page lot bag places found₀ latest₀ i₀ found latest i = places - i
 
 loop-holds : tie.Need-loop-holds Inv-loop μ-loop
-loop-holds c = let a = c .before .args in (omega arith, seen-none (ticketsIn (a .page .now)) (a .lot) (a .bag) (a .before))
+loop-holds c = let a = c .before .args in (omega arith, seen-none (ticketsIn (a .page .now)) (a .lot) (a .bag))
 
 returns : tie.Need-returns Inv-loop μ-loop
 returns c =
@@ -34,11 +34,12 @@ returns c =
 
 loop-again : tie.Need-loop-again Inv-loop μ-loop
 loop-again c =
-    let k = c .before .before .before in
-    let a = c .before .before .before .before .before .before .before .args in (
+    let k = c .before .before .before .before in
+    let a = c .before .before .before .before .before .before .before .before .args in (
       omega arith,
-      rw (c .after .ensures, k .ticket-in .ensures)
-          (seen-more (ticketsIn (a .page .now)) (a .lot) (a .bag) (a .before) (k .before .before .loop .inv .1) (ap ticketSound (sym (k .ticket-in .ensures)) ∙ sym (c .before .before .is-sound .ensures) ∙ not-false _ (c .before .if1 .left))),
+      rw (c .pick .ensures, c .before .is-for .ensures, k .ticket-in .ensures)
+          (seen-more (ticketsIn (a .page .now)) (a .lot) (a .bag) (k .before .before .loop .inv .1)
+          (ap ticketSound (sym (k .ticket-in .ensures)) ∙ sym (c .before .before .before .is-sound .ensures) ∙ not-false _ (c .before .before .if1 .left))),
     )
 
 returns-2 : tie.Need-returns-2 Inv-loop μ-loop
@@ -56,6 +57,7 @@ look-at-spec =
     (λ c κs. search needs)
     (λ c κs. search needs)
     returns
+    (λ c κs. search needs)
     (λ c κs. search needs)
     (λ c. search needs)
     (λ c. search needs)

@@ -14,6 +14,7 @@ use Rattle.layout.proofs.Rotations.{stripe-fits, member-fits}
 use Rattle.steps.specs.Allowance.{images}
 use Rattle.rules.specs.Tickets.{ticketBytes}
 use Rattle.rules.specs.Log.{perPage}
+use Rattle.log.proofs.Seeing.{latest-fits}
 use Rattle.log.proofs.Walking.{Going, Next, going, next, goes-on, walk-ended, walk-broken, walk-full, pages-few}
 use Rattle.log.proofs.walk_log.Statement.{statement}
 use Rattle.log.proofs.walk_log.Tie as tie
@@ -74,16 +75,16 @@ returns c =
 
 returns-2 : tie.Need-returns-2 Inv-loop μ-loop
 returns-2 c =
-    let k = c .before .before .before .before .before in
+    let k = c .before .before .before .before .before .before .before in
     let s = k .before .before .before .before .before .before .before .before .before .before .before .before .before in
     rw (per-page s)
-    (walk-ended (layout s) (given s) (s .args .lost) (s .args .lot) (s .args .bag) (inside s) (looked k) (not-false _ (c .before .before .before .if1 .left)) (rw (per-page s) at (c .before .if2 .taken)))
+    (walk-ended (layout s) (given s) (s .args .lost) (s .args .lot) (s .args .bag) (inside s) (looked k) (c .before .before .before .stands .ensures) (not-false _ (c .before .before .before .before .before .if1 .left)) (rw (per-page s) at (c .before .if2 .taken)))
 
 loop-again : tie.Need-loop-again Inv-loop μ-loop
 loop-again c =
-    let k = c .before .before .before .before in
+    let k = c .before .before .before .before .before .before in
     let s = k .before .before .before .before .before .before .before .before .before .before .before .before .before in
-    goes-on (layout s) (given s) (s .args .lost) (s .args .lot) (s .args .bag) (looked k) (rw (per-page s) at (c .if2 .left))
+    goes-on (layout s) (given s) (s .args .lost) (s .args .lot) (s .args .bag) (looked k) (c .before .before .stands .ensures) (rw (per-page s) at (c .if2 .left))
 
 returns-3 : tie.Need-returns-3 Inv-loop μ-loop
 returns-3 c =
@@ -117,18 +118,19 @@ walk-log-spec =
     let f = c .before .before .before .before .before .before .before .before in
     f .fetch-member .kept .0 ∙ f .before .before .before .loop .inv .long ∙ sym (f .before .before .before .before .before .before .before .before .pre .3))
     returns
+    (λ c κs. latest-fits (looked (c .before .before .before) .shows))
     (λ c.
-    let i = c .before .before .before .before .before .before .before .before .before .before .before in
+    let i = c .before .before .before .before .before .before .before .before .before .before .before .before .before in
     search (needs, few-places (i .before .before .before .before .before .before) (i .before .loop .i) (i .loop-test .taken)))
     (λ c.
-    let i = c .before .before .before .before .before .before .before .before .before .before .before .before in
+    let i = c .before .before .before .before .before .before .before .before .before .before .before .before .before .before in
     search (needs, few-places (i .before .before .before .before .before .before) (i .before .loop .i) (i .loop-test .taken), c .before .if2 .taken, per-page (i .before .before .before .before .before .before), inside (i .before .before .before .before .before .before) .bytes-high))
     (λ c.
-    let f = c .before .before .before .before .before .before .before .before .before .before in
+    let f = c .before .before .before .before .before .before .before .before .before .before .before .before in
     f .fetch-member .kept .0 ∙ f .before .before .before .loop .inv .long ∙ sym (f .before .before .before .before .before .before .before .before .pre .3))
     returns-2
     (λ c.
-    let i = c .before .before .before .before .before .before .before .before .before .before .before in
+    let i = c .before .before .before .before .before .before .before .before .before .before .before .before .before in
     search (needs, few-pages (i .before .before .before .before .before .before), i .loop-test .taken))
     (λ c. search needs)
     loop-again
