@@ -30,7 +30,8 @@ const NEAR: f64 = 1.05;
 pub trait Race {
     /// How many things have their turns.
     fn turns(&self) -> usize;
-    /// Whether some of them have their images in common: then with swept caches each turn begins with a sweep.
+    /// Whether some of them have their images in common: then with swept caches each turn begins with a
+    /// sweep.
     fn shares_images(&self) -> bool;
     /// What is not timed of a turn's run, ahead of it.
     fn prepare(&mut self, turn: usize);

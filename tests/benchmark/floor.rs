@@ -1,5 +1,5 @@
-//! The floor: the least that any program must do that answers a call, written plainly; and the plain passes over a
-//! log.
+//! The floor: the least that any program must do that answers a call, written plainly; and the plain passes
+//! over a log.
 
 use crate::log::{Pass, Passes};
 use crate::patch::Patch;

@@ -33,8 +33,8 @@ pub fn build(random: &mut Random, shape: Shape, order: Order) -> Images {
     Builder::new(random, shape, order, 0).build(kinds)
 }
 
-/// The same with a log of tickets in its pages, whose last stripe has a slot; and on each chip one page is left for an
-/// addition.
+/// The same with a log of tickets in its pages, whose last stripe has a slot; and on each chip one page is
+/// left for an addition.
 pub fn build_log(random: &mut Random, shape: Shape, order: Order) -> Images {
     let log = Log::of(shape);
     let mut kinds = kinds(random, shape, order);

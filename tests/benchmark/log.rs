@@ -38,8 +38,8 @@ impl Log {
         content
     }
 
-    /// Lot after lot each bag is weighed. Now and then one comes again, but for those of the first lot; the last ticket
-    /// is a weight.
+    /// Lot after lot each bag is weighed. Now and then one comes again, but for those of the first lot. The
+    /// last ticket is a weight.
     fn ticket(self, random: &mut Random, number: usize) -> Ticket {
         let again = if number > BAGS && number + 1 < self.tickets { random.below(AGAIN_ONE_IN) } else { 2 };
         let of = if again < 2 { random.between(BAGS, number - 1) } else { number };
@@ -71,7 +71,7 @@ pub enum Pass {
     Copy,
     /// Each is copied to the same page.
     OnePage,
-    /// The first of those that a page is gathered from is copied to the same page, the others are XORed there.
+    /// To the same page the first of those is copied that a page is gathered from, and the others are XORed.
     Gathered,
 }
 
@@ -115,9 +115,8 @@ impl Passes {
         let data = |read: &Read| &chips[read.at as usize..][..*w];
         match pass {
             Pass::Copy => {
-                reads
-                    .zip(copy.chunks_exact_mut(*w))
-                    .for_each(|(read, place)| place.copy_from_slice(data(read)));
+                let places = copy.chunks_exact_mut(*w);
+                reads.zip(places).for_each(|(read, place)| place.copy_from_slice(data(read)));
                 black_box(copy);
             }
             Pass::OnePage => reads.for_each(|read| to_page(page, data(read), false)),

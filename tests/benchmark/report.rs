@@ -83,9 +83,9 @@ impl Report {
             let mut cells = strings([tables[0].lines[row].name]);
             for ratio in &ratios {
                 let places = tables.iter().flat_map(|table| {
-                    let values = table.values(ratio, &table.lines[row]).into_iter().flatten();
-                    let place = |pages: &u64| format!("{}, {} pages", table.setting, grouped(*pages));
-                    values.zip(table.pages.iter().map(place))
+                    let values = table.values(ratio, &table.lines[row]).into_iter().zip(&table.pages);
+                    let place = |pages: u64| format!("{}, {} pages", table.setting, grouped(pages));
+                    values.filter_map(move |(value, &pages)| Some((value?, place(pages))))
                 });
                 let worst = places.max_by(|a, b| a.0.total_cmp(&b.0));
                 let (worst, place) =
@@ -182,8 +182,10 @@ fn strings<const N: usize>(words: [&str; N]) -> Vec<String> {
     words.map(String::from).to_vec()
 }
 
+/// Nothing if there is no time.
 fn microseconds(time: f64) -> String {
     match time {
+        _ if time.is_nan() => String::new(),
         ..1.0 => format!("{time:.3}"),
         ..10.0 => format!("{time:.2}"),
         ..100.0 => format!("{time:.1}"),

@@ -115,6 +115,17 @@ const TO_READ: Ratio = Ratio {
     },
 };
 
+/// Two times of one call differ by nearly as much of it: a smaller share cannot be told.
+const LEAST_SHARE: f64 = 0.1;
+
+/// What a call takes less what it takes without a part, if that can be told; else not a number.
+fn told_apart(whole: f64, without: f64) -> f64 {
+    match whole - without {
+        part if part < LEAST_SHARE * whole => f64::NAN,
+        part => part,
+    }
+}
+
 impl Table {
     pub fn new(
         plan: &'static Plan,
@@ -145,10 +156,9 @@ impl Table {
         let walk = |(i, whole): (usize, &Measured)| {
             let (less, passed) = (&without.at[i], &passed.at[i]);
             Measured {
-                library: whole.library - less.library,
-                reference: whole.reference - less.reference,
-                third: whole.third - less.third,
-                floor: whole.floor - less.floor,
+                library: told_apart(whole.library, less.library),
+                reference: told_apart(whole.reference, less.reference),
+                third: told_apart(whole.third, less.third),
                 passes: passed.passes,
                 settled: whole.settled && less.settled && passed.settled,
                 ..*whole
@@ -183,7 +193,8 @@ impl Table {
 
     /// One row's ratio on each store.
     pub fn values(&self, ratio: &Ratio, line: &Line) -> Vec<Option<f64>> {
-        line.at.iter().enumerate().map(|(i, measured)| (ratio.value)(self, measured, i)).collect()
+        let value = |(i, measured)| (ratio.value)(self, measured, i).filter(|ratio| !ratio.is_nan());
+        line.at.iter().enumerate().map(value).collect()
     }
 
     /// The rows that miss an aim on any store, with their ratios on each.
@@ -205,7 +216,7 @@ impl Table {
 
 /// Two digits, or nothing where there is no ratio.
 pub fn cell(ratio: Option<f64>) -> String {
-    ratio.map(|ratio| format!("{ratio:.2}")).unwrap_or_default()
+    ratio.filter(|ratio| !ratio.is_nan()).map(|ratio| format!("{ratio:.2}")).unwrap_or_default()
 }
 
 fn hundredths(ratio: f64) -> f64 {

@@ -15,7 +15,7 @@ ghost use mathlib.Core.Bool.{true};
 ghost use Prim.Native.Nat.{ℕ, _+_, _*_, _/_, _%_, _^_, _≤_, _<_};
 ghost use lib.ListN.{length, getD};
 ghost use lib.Dec.{eqb};
-ghost use Rattle.layout.specs.Layout.{layoutOf, limits, pages};
+ghost use Rattle.layout.specs.Layout.{Layout, layoutOf, limits, pages};
 ghost use Rattle.layout.specs.Rotation.{parityChip, memberChip, memberOn};
 ghost use Rattle.layout.specs.Page.{isCleanKind, clean, pageAt};
 ghost use Rattle.layout.specs.Record.{recordAt};
@@ -121,12 +121,20 @@ pub fn parity_chip(g: Geometry, j: usize) -> usize
     }
 }
 
+// The chip of member m of a stripe whose parity is on chip `parity`.
+pub fn chip_beside(parity: usize, m: usize) -> usize
+    requires { ⌜ m < 6 ⌝ }
+    ensures { λ r. ⌜ ((l : Layout) (j : ℕ) → parity ≡ parityChip l j → r ≡ memberChip l j m) × (r ≤ m + 1) ⌝ }
+{
+    if m < parity { m } else { m + 1 }
+}
+
 // The chip of member m of stripe j.
 pub fn member_chip(g: Geometry, j: usize, m: usize) -> usize
     requires { ⌜ (limits (layoutOf g) ≡ true) × (m < g .n) ⌝ }
     ensures { λ r. ⌜ (r ≡ memberChip (layoutOf g) j m) × (r ≤ g .n) ⌝ }
 {
-    if m < parity_chip(g, j) { m } else { m + 1 }
+    chip_beside(parity_chip(g, j), m)
 }
 
 // The member on chip c of a stripe whose parity is on chip `parity`, another one.

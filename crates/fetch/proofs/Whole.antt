@@ -4,14 +4,15 @@ use native.Mathlib.Decide.{ℕ-discrete}
 use native.Mathlib.Omega.{arith}
 use mathlib.Core.Path.{_≡_, refl, _∙_}
 use mathlib.Core.Logic.{_≢_}
-use mathlib.Core.Bool.{true}
+use mathlib.Core.Bool.{true, false}
 use mathlib.Core.List.{List, []}
 use lib.ListN.{length, replicate}
 use lib.Dec.{eqb}
-use borrow.Author.Tests.{eq-eqb, ne-eqb}
+use borrow.Author.Tests.{eq-eqb, ne-eqb, eqb-false, not-true}
 use Rattle.bytes.proofs.Xors.{xor-nil-r, length-xors-left, xors-zeros-l}
 use Rattle.ranges.proofs.Looks.{by-test}
-use Rattle.layout.specs.Layout.{Layout, none}
+use Rattle.ranges.proofs.Tests.{and-both}
+use Rattle.layout.specs.Layout.{Layout, none, isNone, pages}
 use Rattle.layout.specs.Rotation.{parityChip, memberChip}
 use Rattle.layout.specs.Page.{Page, pageAt}
 use Rattle.layout.specs.Record.{Record, bit, recordAt}
@@ -19,14 +20,14 @@ use Rattle.layout.specs.Images.{Images, chipsLength, slotsLength, slotAt}
 use Rattle.layout.proofs.Limits.{Within}
 use Rattle.layout.proofs.Rotations.{parity-chip-fits, member-chip-fits}
 use Rattle.rules.specs.declared.Role.the-variants.{Current}
-use Rattle.rules.specs.declared.Origin.the-variants.{Unwritten}
+use Rattle.rules.specs.declared.Origin.the-variants.{Unwritten, Direct}
 use Rattle.rules.specs.Fetch.{itself, gathered, othersInside, othersUnderParity, throughPartial, throughParity, fetchRole, fetchIn}
 use Rattle.rules.specs.Read.{fetchMember}
 use Rattle.rules.proofs.Soundness.Statements.{RecordSound, sound-member}
 use Rattle.rules.proofs.Data.Contents.{Whole, length-bytes, length-gathered, pages-whole, slot-whole, slot-bits, bit-slot}
 use Rattle.rules.proofs.Data.Parity.{numbered-others-inside, numbered-others-under-parity}
 use Rattle.fetch.specs.declared.Got.{Got}
-use Rattle.fetch.specs.Into.{Into}
+use Rattle.fetch.specs.Into.{Into, isDirect}
 
 module _ (l : Layout) (w : Within l) (y : ℕ → ℕ → Page) (whole : Whole l y) (z : ℕ → List ℕ) (slots : (i : ℕ) → i < l .M + 1 → length (z i) ≡ l .W)
     (j : ℕ) (r : Record) (s : RecordSound l r) (m : ℕ) (member : m < l .N) where
@@ -82,3 +83,18 @@ module _ (l : Layout) (w : Within l) (t : Images) (chips : length (t .chips) ≡
             let long = current-whole l w y (pages-whole l t chips) z (slot-whole l t slots) j r s m member lost d in
             rw (ne-eqb (r .current m) (none l) d, h .bytes, h .reads, h .origin, xors-zeros-l (l .W) (fetchRole l y z j r lost (Current m) .bytes) (omega arith))
       ]
+
+-- a member that is there, off its chip
+module _ (l : Layout) (t : Images) (lost j m : ℕ) where
+  told-direct : isDirect l (recordAt l (t .records) j) lost j m ≡ true → (isNone l (recordAt l (t .records) j .current m) ≡ false) × (eqb (memberChip l j m) lost ≡ false)
+  told-direct e = let h = and-both _ _ e in (not-true _ (h .0), not-true _ (h .1))
+
+  pub direct-is : isDirect l (recordAt l (t .records) j) lost j m ≡ true
+      → record { bytes = pageAt l (t .chips) (memberChip l j m) (recordAt l (t .records) j .current m) .bytes; reads = 1; origin = Direct } ≡ fetchMember l t lost j m
+  unfolding fetchMember fetchIn fetchRole itself
+  direct-is e = let h = told-direct e in rw (h .0, h .1)
+
+  pub direct-fits : Within l → RecordSound l (recordAt l (t .records) j) → m < l .N → isDirect l (recordAt l (t .records) j) lost j m ≡ true
+      → recordAt l (t .records) j .current m < pages l
+  direct-fits w s member e =
+      sound-member l w (recordAt l (t .records) j) s m member .current (eqb-false (recordAt l (t .records) j .current m) (none l) (told-direct e .0))

@@ -6,6 +6,7 @@ use bytes::xor_into;
 use codec::NONE;
 use codec::StripeRecord;
 use codec::bit_of;
+use codec::chip_beside;
 use codec::member_chip;
 use codec::member_on;
 use codec::page_data;
@@ -27,6 +28,7 @@ ghost use lib.Dec.{eqb};
 ghost use lib.ListN.{length, replicate};
 ghost use Rattle.bytes.specs.Xor.{_⊕_};
 ghost use Rattle.layout.specs.Layout.{layoutOf, limits, none, pages};
+ghost use Rattle.layout.specs.Rotation.{parityChip, memberChip};
 ghost use Rattle.layout.specs.Page.{pageAt};
 ghost use Rattle.layout.specs.Record.{bit, recordAt};
 ghost use Rattle.layout.specs.Images.{slotAt};
@@ -38,7 +40,7 @@ ghost use Rattle.rules.specs.Read.{fetchMember};
 ghost use Rattle.codec.specs.Fit.{ChipsFit, RecordsFit, SlotsFit};
 ghost use Rattle.codec.specs.Views.{sixOf, recordFrom};
 ghost use Rattle.fetch.specs.Numbers.{NumbersFit};
-ghost use Rattle.fetch.specs.Into.{RoleFits, Into};
+ghost use Rattle.fetch.specs.Into.{RoleFits, Into, isDirect};
 
 // What a fetch tells, besides the bytes.
 pub struct Got {
@@ -338,6 +340,44 @@ pub fn fetch_member(
         × (r .reads ≤ 7) ⌝ }
 {
     fetch_page(buffer, chips, records, slots, g, lost, j, Role::Current(m))
+}
+
+// Whether member m of stripe j can be read off its chip: it is written, and its chip is not lost.
+pub fn is_direct(
+    records: &[u8],
+    g: Geometry,
+    lost: usize,
+    j: usize,
+    parity: usize,
+    m: usize,
+) -> bool
+    requires { ⌜ RecordsFit g (now records) × (j < g .s) × (m < g .n) × (parity ≡ parityChip (layoutOf g) j) ⌝ }
+    ensures { λ r. ⌜ r ≡ isDirect (layoutOf g) (recordAt (layoutOf g) (now (records .entry)) j) lost j m ⌝ }
+{
+    (number_in(records, g, j, m) != NONE) & (chip_beside(parity, m) != lost)
+}
+
+// Where it can, as it lies there; else the work page, to which it was fetched.
+pub fn lent<'a>(
+    chips: &'a [u8],
+    work: &'a [u8],
+    records: &[u8],
+    g: Geometry,
+    j: usize,
+    parity: usize,
+    m: usize,
+    direct: bool,
+) -> &'a [u8]
+    requires { ⌜ ChipsFit g (now chips) × RecordsFit g (now records) × (length (now work) ≡ g .w) × (j < g .s) × (m < g .n) × (parity ≡ parityChip (layoutOf g) j)
+        × (direct ≡ true → recordAt (layoutOf g) (now records) j .current m < pages (layoutOf g)) ⌝ }
+    ensures { λ r. ⌜ (now r ≡ cond direct (pageAt (layoutOf g) (now (chips .entry)) (memberChip (layoutOf g) j m) (recordAt (layoutOf g) (now (records .entry)) j .current m) .bytes) (now (work .entry)))
+        × (length (now r) ≡ g .w) ⌝ }
+{
+    if direct {
+        let number = number_in(records, g, j, m);
+        return page_data(chips, g, chip_beside(parity, m), number);
+    }
+    work
 }
 
 // The same for a read: on the lost chip it is gathered in a work page.

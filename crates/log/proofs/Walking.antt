@@ -1,6 +1,6 @@
 -- What a walk through the pages has found is the log's end, its soundness, its reads, and what stands.
 use Prim.Native.Nat.{ℕ, _+_, _*_, _/_, _%_, _≤_, _<_}
-use native.Mathlib.Nat.{zero-mul, suc-mul, mul-le-mul}
+use native.Mathlib.Nat.{zero-mul, suc-mul, mul-le-mul, mod-lt, div-add-mod', div-eq-of-lt, mod-eq-of-lt}
 use native.Mathlib.Numerals.{add-one}
 use native.Mathlib.Omega.{arith}
 use mathlib.Core.Path.{_≡_, refl, sym, ap, _∙_}
@@ -10,26 +10,28 @@ use lib.Arith.{digits-lt, digits-div, digits-mod}
 use lib.Dec.{eqb}
 use lib.ListN.{length}
 use borrow.Author.Tests.{eqb-true}
-use Rattle.ranges.specs.declared.Found.{Found}
 use Rattle.ranges.specs.declared.Found.the-variants.{At, Nothing}
 use Rattle.ranges.specs.Look.{sumBelow, whenFound}
-use Rattle.ranges.proofs.Looks.{by-test, by-order, by-found, at-last, both, all-at, first-at, first-is, first-none, not-found}
+use Rattle.ranges.proofs.Looks.{by-test, by-order, by-found, at-last, both, all-at, first-at, first-is, first-none}
 use Rattle.ranges.proofs.Sums.{sum-more}
 use Rattle.ranges.proofs.Tests.{and-left}
 use Rattle.layout.specs.Layout.{Layout}
+use Rattle.layout.specs.Rotation.{parityChip}
 use Rattle.layout.specs.Images.{Images}
 use Rattle.layout.proofs.Limits.{Within}
+use Rattle.layout.proofs.Rotations.{stripe-fits, member-fits}
 use Rattle.rules.specs.declared.Ticket.{Ticket}
 use Rattle.rules.specs.declared.Standing.{Standing}
 use Rattle.rules.specs.declared.Standing.the-variants.{Nothing as NoWeight}
-use Rattle.rules.specs.declared.Origin.{Origin}
-use Rattle.rules.specs.Fetch.{Fetched}
 use Rattle.rules.specs.Read.{fetch, fetchMember}
 use Rattle.rules.specs.Tickets.{ticketBytes, isEmpty, ticketSound, weightOf}
-use Rattle.rules.specs.Log.{perPage, places, fallsIn, bytesAt, ticketAt, contents, logEnd, logLength, logSound, latest, standing, logPages, logReads}
+use Rattle.rules.specs.Log.{perPage, places, bytesAt, ticketAt, contents, logEnd, logLength, logSound, latest, standing, logPages, logReads}
 use Rattle.log.specs.declared.Shown.{Shown}
+use Rattle.log.specs.declared.Latest.{Latest}
+use Rattle.log.specs.declared.Position.{Position}
+use Rattle.log.specs.declared.Looked.{Looked}
 use Rattle.log.specs.declared.Walk.{Walk}
-use Rattle.log.specs.Walks.{ticketsIn, PageShows, Walked, broken, walkOf}
+use Rattle.log.specs.Walks.{ticketsIn, standingFrom, positionOf, PageShows, PageLooked, Walked, broken, walkOf}
 use Rattle.log.proofs.Seeing.{StandsTo, stands-none, seen-page, stood-is}
 
 -- a sound ticket is not empty
@@ -53,12 +55,11 @@ module _ (l : Layout) (f : ℕ → List ℕ) where
     abbrev pub SeenTo : ℕ → Standing → Type 0
     SeenTo n last = StandsTo lot bag (ticketAt l f) NoWeight n last
 
-    pub seen-to : {i : ℕ} {page : List ℕ} {mid last : Standing} {r : Shown} → f i ≡ page → length page ≡ l .W → SeenTo (i * perPage l) mid → PageShows page lot bag r
-        → last ≡ cond (r .found) (weightOf (ticketsIn page (r .latest))) mid → SeenTo (i * perPage l + r .kept) last
-    seen-to {i} {page} {mid} {last} {r} e long s p after =
+    pub seen-to : {i : ℕ} {mid last : Standing} {r : Shown} → length (f i) ≡ l .W → SeenTo (i * perPage l) mid → PageShows (f i) lot bag r
+        → last ≡ cond (r .found) (weightOf (ticketsIn (f i) (r .latest))) mid → SeenTo (i * perPage l + r .kept) last
+    seen-to {i} {mid} {last} {r} long s p after =
         let few : r .kept ≤ perPage l = rw long at (p .few) in
-        seen-page lot bag (λ k h. in-page i k (omega arith) ∙ ap (λ (xs : List ℕ). ticketsIn xs k) e) s (p .seen)
-        (after ∙ stood-is (ticketsIn page) lot bag mid (p .seen))
+        seen-page lot bag (λ k h. in-page i k (omega arith)) s (p .seen) (after ∙ stood-is (ticketsIn (f i)) lot bag mid (p .seen))
 
     none-empty : {n : ℕ} {last : Standing} → SeenTo n last → (k : ℕ) → k < n → isEmpty (ticketAt l f k) ≡ false
     none-empty {n} s k h = not-empty (ticketAt l f k) (all-at n (λ t. ticketSound (ticketAt l f t)) (s .sound) k h)
@@ -104,64 +105,49 @@ module _ (l : Layout) (s : Images) (lost lot bag : ℕ) where
   readsTo i = sumBelow i (λ k. fetch l s lost k .reads)
 
   -- i pages have been walked, none of whose tickets ends the log or breaks the rules
-  pub record Going (page : List ℕ) (last : Standing) (reads i : ℕ) : Type 0 where
+  pub record Going (last : Latest) (reads i : ℕ) : Type 0 where
     pub below : i ≤ N * S
-    pub long : length page ≡ W
-    pub seen : SeenTo l (contents l s lost) lot bag (i * perPage l) last
+    pub seen : SeenTo l (contents l s lost) lot bag (i * perPage l) (standingFrom last)
     pub counted : reads ≡ readsTo i
     pub few : reads ≤ 7 * i
 
-  pub going : {page : List ℕ} → length page ≡ W → Going page NoWeight 0 0
+  pub going : {last : Latest} → standingFrom last ≡ NoWeight → Going last 0 0
   unfolding sumBelow
-  going long = record {
+  going e = record {
     below = omega arith;
-    long = long;
-    seen = rw zero-mul (stands-none lot bag (ticketAt l (contents l s lost)) NoWeight);
+    seen = rw (zero-mul, e) (stands-none lot bag (ticketAt l (contents l s lost)) NoWeight);
     counted = refl;
     few = omega arith;
   }
 
-  -- the next one was fetched and looked at
-  pub record Next (page : List ℕ) (last : Standing) (reads i more : ℕ) (shown : Shown) : Type 0 where
+  -- the next one was looked at
+  pub record Next (reads i : ℕ) (r : Looked) : Type 0 where
     pub inside : i < N * S
-    pub long : length page ≡ W
-    pub left : contents l s lost i ≡ page
-    pub seen : SeenTo l (contents l s lost) lot bag (i * perPage l + shown .kept) (cond (shown .found) (weightOf (ticketsIn page (shown .latest))) last)
-    pub shows : PageShows page lot bag shown
-    pub counted : reads + more ≡ readsTo (i + 1)
-    pub few : reads + more ≤ 7 * (i + 1)
+    pub long : length (contents l s lost i) ≡ W
+    pub shows : PageShows (contents l s lost i) lot bag (r .shown)
+    pub seen : SeenTo l (contents l s lost) lot bag (i * perPage l + r .shown .kept) (standingFrom (r .latest))
+    pub counted : reads + r .reads ≡ readsTo (i + 1)
+    pub few : reads + r .reads ≤ 7 * (i + 1)
 
-  pub next : {page after : List ℕ} {last : Standing} {reads i more : ℕ} {origin : Origin} {shown : Shown} → Going page last reads i → i < N * S
-      → record { bytes = after; reads = more; origin = origin } ≡ fetchMember l s lost (i / N) (i % N) → more ≤ 7 → length after ≡ length page
-      → PageShows after lot bag shown → Next after last reads i more shown
-  unfolding fetch
-  next {page} {after} {last} {reads} {i} {more} g h got low long shown =
-      let is : contents l s lost i ≡ after = sym (ap (λ (x : Fetched). x .bytes) got) in
-      record {
-        inside = h;
-        long = long ∙ g .long;
-        left = is;
-        seen = seen-to l (contents l s lost) lot bag is (long ∙ g .long) (g .seen) shown refl;
-        shows = shown;
-        counted = rw (add-one, sum-more) (ap (λ (n : ℕ). n + more) (g .counted) ∙ ap (λ (n : ℕ). readsTo i + n) (ap (λ (x : Fetched). x .reads) got));
-        few = omega (arith, g .few);
-      }
+  pub next : {last : Latest} {reads i : ℕ} {r : Looked} → Going last reads i → i < N * S → PageLooked l s lost lot bag i last r → Next reads i r
+  next {last} {reads} {i} {r} g h p = record {
+    inside = h;
+    long = p .long;
+    shows = p .shows;
+    seen = seen-to l (contents l s lost) lot bag (p .long) (g .seen) (p .shows) (p .stands);
+    counted = rw (add-one, sum-more) (ap (λ (n : ℕ). n + r .reads) (g .counted) ∙ ap (λ (n : ℕ). readsTo i + n) (p .reads));
+    few = omega (arith, g .few, p .few);
+  }
 
-  module _ {page : List ℕ} {last : Standing} {reads i more : ℕ} {shown : Shown} (x : Next page last reads i more shown) where
-    -- the ticket behind those that were sound
-    ticket-next : shown .kept < perPage l → ticketAt l (contents l s lost) (i * perPage l + shown .kept) ≡ ticketsIn page (shown .kept)
-    ticket-next h = in-page l (contents l s lost) i (shown .kept) h ∙ ap (λ (xs : List ℕ). ticketsIn xs (shown .kept)) (x .left)
-
-    pub goes-on : {next : Standing} → next ≡ cond (shown .found) (weightOf (ticketsIn page (shown .latest))) last → perPage l ≤ shown .kept
-        → Going page next (reads + more) (i + 1)
-    goes-on after h =
-        let few : shown .kept ≤ perPage l = rw (x .long) at (x .shows .few) in
-        let all : shown .kept ≡ perPage l = omega arith in
+  module _ {reads i : ℕ} {r : Looked} (x : Next reads i r) where
+    pub goes-on : perPage l ≤ r .shown .kept → Going (r .latest) (reads + r .reads) (i + 1)
+    goes-on h =
+        let few : r .shown .kept ≤ perPage l = rw (x .long) at (x .shows .few) in
+        let all : r .shown .kept ≡ perPage l = omega arith in
         let place : (i + 1) * perPage l ≡ i * perPage l + perPage l = rw (add-one, suc-mul) in
         record {
           below = omega (arith, x .inside);
-          long = x .long;
-          seen = rw (after, place) (rw all at (x .seen));
+          seen = rw place (rw all at (x .seen));
           counted = x .counted;
           few = x .few;
         }
@@ -170,43 +156,40 @@ module _ (l : Layout) (s : Images) (lost lot bag : ℕ) where
     pub pages-few : N * S ≤ 393210
     pages-few = mul-le-mul (w .members-high) (w .stripes-high)
 
-    module _ {page : List ℕ} {last : Standing} {reads i more : ℕ} {shown : Shown} (x : Next page last reads i more shown) where
-      pub walk-ended : {next : Standing} → next ≡ cond (shown .found) (weightOf (ticketsIn page (shown .latest))) last → shown .ended ≡ true → shown .kept < perPage l
-          → Walked l s lost lot bag (record { sound = true; end = At (i * perPage l + shown .kept); reads = reads + more; standing = next }) page
+    module _ {reads i : ℕ} {r : Looked} (x : Next reads i r) where
+      pub walk-ended : {last : Standing} → last ≡ standingFrom (r .latest) → r .shown .ended ≡ true → r .shown .kept < perPage l
+          → Walked l s lost lot bag (record { sound = true; end = At (i * perPage l + r .shown .kept); reads = reads + r .reads; standing = last })
       unfolding logReads logPages whenFound
-      walk-ended after ends h =
-          let inside : shown .kept < length page / ticketBytes = rw (x .long) h in
-          let empty = ap (λ (t : Ticket). isEmpty t) (ticket-next x h) ∙ sym (x .shows .ends inside) ∙ ends in
+      walk-ended stands ends h =
+          let inside : r .shown .kept < length (contents l s lost i) / ticketBytes = rw (x .long) h in
+          let empty = ap (λ (t : Ticket). isEmpty t) (in-page l (contents l s lost) i (r .shown .kept) h) ∙ sym (x .shows .ends inside) ∙ ends in
           let t = ended l (contents l s lost) lot bag (x .seen) (digits-lt (x .inside) h) empty in
           record {
-            tells = rw (after, t .0, t .1, t .2, digits-div i h, x .counted);
-            page-left = λ p e.
-                sym (x .left) ∙ ap (contents l s lost) (sym (digits-div i h) ∙ ap (λ (t : ℕ). fallsIn l t) (ap (λ (o : Found). whenFound o (λ t. t) 0) e));
+            tells = rw (stands, t .0, t .1, t .2, digits-div i h, x .counted);
             few = omega (arith, x .few, x .inside, pages-few);
           }
 
-      pub walk-broken : {r : Walk} → r ≡ broken → shown .ended ≡ false → Walked l s lost lot bag r page
+      pub walk-broken : {o : Walk} → o ≡ broken → r .shown .ended ≡ false → Walked l s lost lot bag o
       walk-broken e ends =
-          let few : shown .kept ≤ perPage l = rw (x .long) at (x .shows .few) in
-          by-order (shown .kept) (perPage l)
+          let few : r .shown .kept ≤ perPage l = rw (x .long) at (x .shows .few) in
+          by-order (r .shown .kept) (perPage l)
           (λ h.
-          let inside : shown .kept < length page / ticketBytes = rw (x .long) h in
-          let is = ticket-next x h in
+          let inside : r .shown .kept < length (contents l s lost i) / ticketBytes = rw (x .long) h in
+          let is = in-page l (contents l s lost) i (r .shown .kept) h in
           let wrong =
           breaks l (contents l s lost) lot bag (x .seen) (digits-lt (x .inside) h)
           (ap (λ (t : Ticket). isEmpty t) is ∙ sym (x .shows .ends inside) ∙ ends) (ap ticketSound is ∙ x .shows .next inside) in
-          rw e (record { tells = rw wrong; page-left = λ p none. not-found p none; few = omega arith }))
-          (λ h. let all : shown .kept ≡ length page / ticketBytes = rw (x .long) (omega arith) in both _ (x .shows .over all) ends)
+          rw e (record { tells = rw wrong; few = omega arith }))
+          (λ h. let all : r .shown .kept ≡ length (contents l s lost i) / ticketBytes = rw (x .long) (omega arith) in both _ (x .shows .over all) ends)
 
-    pub walk-full : {page : List ℕ} {last : Standing} {reads i : ℕ} → Going page last reads i → N * S ≤ i
-        → Walked l s lost lot bag (record { sound = true; end = Nothing; reads = reads; standing = last }) page
+    pub walk-full : {latest : Latest} {last : Standing} {reads i : ℕ} → last ≡ standingFrom latest → Going latest reads i → N * S ≤ i
+        → Walked l s lost lot bag (record { sound = true; end = Nothing; reads = reads; standing = last })
     unfolding logReads logPages whenFound
-    walk-full {i = i} g h =
+    walk-full {i = i} stands g h =
         let all : i ≡ N * S = omega (arith, g .below) in
         let t = full l (contents l s lost) lot bag (rw all at (g .seen)) in
         record {
-          tells = rw (t .0, t .1, t .2, g .counted, all);
-          page-left = λ p e. not-found p e;
+          tells = rw (stands, t .0, t .1, t .2, g .counted, all);
           few = omega (arith, g .few, g .below, pages-few);
         }
 
@@ -222,3 +205,55 @@ module _ (l : Layout) (s : Images) (lost lot bag : ℕ) where
       let sound = told-sound e ∙ h in
       let is = rw sound at e in
       (sound, sym (ap (λ (x : Walk). x .end) is), sym (ap (λ (x : Walk). x .reads) is), sym (ap (λ (x : Walk). x .standing) is))
+
+-- ---- positions
+
+module _ (l : Layout) (w : Within l) where
+  open Layout l using (N)
+
+  -- the next member of the stripe, or the first of the next one
+  pub same-stripe : (i : ℕ) → i % N + 1 < N → ((i + 1) / N ≡ i / N) × ((i + 1) % N ≡ i % N + 1)
+  same-stripe i h =
+      let e : i + 1 ≡ i / N * N + (i % N + 1) = ap (λ (n : ℕ). n + 1) (sym (div-add-mod' i N)) ∙ omega arith in
+      (ap (λ (n : ℕ). n / N) e ∙ digits-div (i / N) h, ap (λ (n : ℕ). n % N) e ∙ digits-mod (i / N) h)
+
+  pub next-stripe : (i : ℕ) → N ≤ i % N + 1 → ((i + 1) / N ≡ i / N + 1) × ((i + 1) % N ≡ 0)
+  next-stripe i h =
+      let some : 0 < N = omega (arith, w .members-low) in
+      let all : i % N + 1 ≡ N = omega (arith, mod-lt i some) in
+      let product : (i / N + 1) * N ≡ i / N * N + N = rw (add-one, suc-mul) in
+      let e : i + 1 ≡ (i / N + 1) * N + 0 = ap (λ (n : ℕ). n + 1) (sym (div-add-mod' i N)) ∙ omega (arith, all, product) in
+      (ap (λ (n : ℕ). n / N) e ∙ digits-div (i / N + 1) some, ap (λ (n : ℕ). n % N) e ∙ digits-mod (i / N + 1) some)
+
+  pub position-first : {parity : ℕ} → parity ≡ parityChip l 0 → record { page = 0; stripe = 0; member = 0; parity = parity } ≡ positionOf l 0
+  position-first e =
+      let some : 0 < N = omega (arith, w .members-low) in
+      rw (div-eq-of-lt some, mod-eq-of-lt some, e)
+
+  pub position-same : {at : Position} → at ≡ positionOf l (at .page) → at .member + 1 < N
+      → record { page = at .page + 1; stripe = at .stripe; member = at .member + 1; parity = at .parity } ≡ positionOf l (at .page + 1)
+  position-same {at} e h =
+      let member = ap (λ (p : Position). p .member) e in
+      let t = same-stripe (at .page) (rw member at h) in
+      rw (t .0, t .1, member, ap (λ (p : Position). p .stripe) e, ap (λ (p : Position). p .parity) e)
+
+  pub position-next : {at : Position} {parity : ℕ} → at ≡ positionOf l (at .page) → N ≤ at .member + 1 → parity ≡ parityChip l (at .stripe + 1)
+      → record { page = at .page + 1; stripe = at .stripe + 1; member = 0; parity = parity } ≡ positionOf l (at .page + 1)
+  position-next {at} e h chip =
+      let t = next-stripe (at .page) (rw (ap (λ (p : Position). p .member) e) at h) in
+      rw (t .0, t .1, chip, ap (λ (p : Position). p .stripe) e)
+
+  -- what a position says of its page
+  module _ {at : Position} (e : at ≡ positionOf l (at .page)) where
+    pub at-stripe : at .page < N * l .S → at .stripe < l .S
+    at-stripe h = rw (ap (λ (p : Position). p .stripe) e) (stripe-fits l w (at .page) h)
+
+    pub at-member : at .member < N
+    at-member = rw (ap (λ (p : Position). p .member) e) (member-fits l w (at .page))
+
+    pub at-parity : at .parity ≡ parityChip l (at .stripe)
+    at-parity = ap (λ (p : Position). p .parity) e ∙ ap (parityChip l) (sym (ap (λ (p : Position). p .stripe) e))
+
+    pub at-fetch : (s : Images) (lost : ℕ) → fetchMember l s lost (at .stripe) (at .member) ≡ fetch l s lost (at .page)
+    unfolding fetch
+    at-fetch s lost = rw (ap (λ (p : Position). p .stripe) e, ap (λ (p : Position). p .member) e)

@@ -8,12 +8,18 @@ use Rattle.ranges.specs.declared.Found.the-variants.{At, Nothing}
 use Rattle.ranges.specs.Look.{allBelow, lastBelow}
 use Rattle.bytes.specs.Units.{unit}
 use Rattle.layout.specs.Layout.{Layout}
+use Rattle.layout.specs.Rotation.{memberOf, stripeOf, parityChip}
 use Rattle.layout.specs.Images.{Images}
 use Rattle.rules.specs.declared.Ticket.{Ticket}
-use Rattle.rules.specs.declared.Standing.the-variants.{Nothing as NoWeight}
-use Rattle.rules.specs.Tickets.{ticketBytes, ticketOf, isEmpty, ticketSound, isFor}
-use Rattle.rules.specs.Log.{contents, fallsIn, logEnd, logSound, logReads, standing}
+use Rattle.rules.specs.declared.Standing.{Standing}
+use Rattle.rules.specs.declared.Standing.the-variants.{Weighed, Nothing as NoWeight}
+use Rattle.rules.specs.Read.{fetch}
+use Rattle.rules.specs.Tickets.{ticketBytes, ticketOf, isEmpty, ticketSound, isFor, weightOf}
+use Rattle.rules.specs.Log.{contents, logEnd, logSound, logReads, standing}
 use Rattle.log.specs.declared.Shown.{Shown}
+use Rattle.log.specs.declared.Latest.{Latest}
+use Rattle.log.specs.declared.Position.{Position}
+use Rattle.log.specs.declared.Looked.{Looked}
 use Rattle.log.specs.declared.Walk.{Walk}
 
 -- a log with a ticket that breaks the rules
@@ -49,8 +55,23 @@ pub record PageShows (page : List ℕ) (lot bag : ℕ) (r : Shown) : Type 0 wher
   pub ends : r .kept < length page / ticketBytes → r .ended ≡ isEmpty (ticketsIn page (r .kept))
   pub over : r .kept ≡ length page / ticketBytes → r .ended ≡ true
 
--- the walk, and the page of the log's end, which it leaves behind
-pub record Walked (l : Layout) (s : Images) (lost lot bag : ℕ) (r : Walk) (page : List ℕ) : Type 0 where
+-- what the latest ticket lets stand: "if it is a weight, else none"
+abbrev pub standingFrom : Latest → Standing
+standingFrom x = cond (x .weight) (Weighed (record { gross = x .gross; tare = x .tare })) NoWeight
+
+-- logical page i, and the chip of its stripe's parity
+abbrev pub positionOf : Layout → ℕ → Position
+positionOf l i = record { page = i; stripe = stripeOf l i; member = memberOf l i; parity = parityChip l (stripeOf l i) }
+
+-- page i of a store, looked at
+pub record PageLooked (l : Layout) (s : Images) (lost lot bag i : ℕ) (before : Latest) (r : Looked) : Type 0 where
+  pub long : length (contents l s lost i) ≡ l .W
+  pub shows : PageShows (contents l s lost i) lot bag (r .shown)
+  pub reads : r .reads ≡ fetch l s lost i .reads
+  pub few : r .reads ≤ 7
+  pub stands : standingFrom (r .latest) ≡ cond (r .shown .found) (weightOf (ticketsIn (contents l s lost i) (r .shown .latest))) (standingFrom before)
+
+-- what the walk of a store's log tells; no count is near a word's end
+pub record Walked (l : Layout) (s : Images) (lost lot bag : ℕ) (r : Walk) : Type 0 where
   pub tells : r ≡ walkOf l s lost lot bag
-  pub page-left : (t : ℕ) → r .end ≡ At t → page ≡ contents l s lost (fallsIn l t)
   pub few : r .reads < 2 ^ 32

@@ -3,25 +3,31 @@
 use bytes::copy;
 use bytes::number_at;
 use bytes::number_of_four;
+use codec::parity_chip;
 use fetch::fetch_member;
+use fetch::is_direct;
+use fetch::lent;
 use layout::Geometry;
 use ranges::Found;
 use rules::Standing;
 use rules::Ticket;
 use rules::Weight;
 ghost use mathlib.Core.Path.{_≡_};
-ghost use mathlib.Core.Bool.{true, cond};
+ghost use mathlib.Core.Bool.{true, false, cond};
 ghost use Prim.Native.Nat.{ℕ, _+_, _*_, _/_, _≤_, _<_};
 ghost use lib.ListN.{length};
 ghost use Rattle.bytes.specs.Units.{unit, unitPut};
 ghost use Rattle.ranges.specs.declared.Found.the-variants.{At};
-ghost use Rattle.layout.specs.Layout.{layoutOf};
+ghost use Rattle.layout.specs.Layout.{layoutOf, limits};
 ghost use Rattle.layout.specs.Record.{recordAt};
 ghost use Rattle.steps.specs.Allowance.{images};
 ghost use Rattle.rules.specs.Sound.{recordSound};
+ghost use Rattle.rules.specs.Read.{fetch};
+ghost use Rattle.rules.specs.Log.{contents};
+ghost use Rattle.fetch.specs.Into.{isDirect};
 ghost use Rattle.rules.specs.Tickets.{ticketBytes, ticketOf, ticketSound, isFor, weightOf};
 ghost use Rattle.codec.specs.Fit.{ChipsFit, RecordsFit, SlotsFit};
-ghost use Rattle.log.specs.Walks.{broken as brokenWalk, ticketsIn, PageShows, Walked};
+ghost use Rattle.log.specs.Walks.{broken as brokenWalk, ticketsIn, standingFrom, positionOf, PageShows, PageLooked, Walked};
 
 // The bytes of a ticket.
 pub const TICKET: usize = 16;
@@ -60,19 +66,6 @@ pub fn is_sound(t: Ticket) -> bool
         & (t.blank == 0)
         & ((t.kind != 2) | ((t.gross == 0) & (t.tare == 0)))
         & (t.tare <= t.gross)
-}
-
-// What a ticket lets stand: its weight, or nothing.
-fn weight_of(t: Ticket) -> Standing
-    ensures { λ r. ⌜ r ≡ weightOf t ⌝ }
-{
-    if t.kind == 1 {
-        return Standing::Weighed(Weight {
-            gross: t.gross,
-            tare: t.tare,
-        });
-    }
-    Standing::Nothing
 }
 
 // Whether a ticket is for the lot and bag.
@@ -132,15 +125,158 @@ fn look_at(page: &[u8], lot: u32, bag: u16) -> Shown
     }
 }
 
+// The latest ticket so far for the lot and bag, told by numbers alone.
+struct Latest {
+    // it is a weight
+    weight: bool,
+    gross: u32,
+    tare: u32,
+}
+
 // What stands after the tickets of a page.
-fn stands(page: &[u8], shown: Shown, before: Standing) -> Standing
+fn latest_of(page: &[u8], shown: Shown, before: Latest) -> Latest
     requires { ⌜ (shown .found ≡ true → shown .latest * ticketBytes + ticketBytes ≤ length (now page)) ⌝ }
-    ensures { λ r. ⌜ r ≡ cond (shown .found) (weightOf (ticketsIn (now (page .entry)) (shown .latest))) before ⌝ }
+    ensures { λ r. ⌜ standingFrom r ≡ cond (shown .found) (weightOf (ticketsIn (now (page .entry)) (shown .latest))) (standingFrom before) ⌝ }
 {
     if shown.found {
-        return weight_of(ticket_in(page, shown.latest));
+        let t = ticket_in(page, shown.latest);
+        return Latest {
+            weight: t.kind == 1,
+            gross: t.gross,
+            tare: t.tare,
+        };
     }
     before
+}
+
+// What it lets stand.
+fn standing_of(x: Latest) -> Standing
+    ensures { λ r. ⌜ r ≡ standingFrom x ⌝ }
+{
+    if x.weight {
+        return Standing::Weighed(Weight {
+            gross: x.gross,
+            tare: x.tare,
+        });
+    }
+    Standing::Nothing
+}
+
+// A logical page, where it stands.
+struct Position {
+    page: usize,
+    stripe: usize,
+    member: usize,
+    // the chip of the stripe's parity
+    parity: usize,
+}
+
+// The first page.
+fn first_page(g: Geometry) -> Position
+    requires { ⌜ limits (layoutOf g) ≡ true ⌝ }
+    ensures { λ r. ⌜ r ≡ positionOf (layoutOf g) 0 ⌝ }
+{
+    Position {
+        page: 0,
+        stripe: 0,
+        member: 0,
+        parity: parity_chip(g, 0),
+    }
+}
+
+// The next page: a remainder is taken for a stripe and not for a page.
+fn next_page(g: Geometry, at: Position) -> Position
+    requires { ⌜ (limits (layoutOf g) ≡ true) × (at ≡ positionOf (layoutOf g) (at .page)) × (at .page < g .n * g .s) ⌝ }
+    ensures { λ r. ⌜ r ≡ positionOf (layoutOf g) (at .page + 1) ⌝ }
+{
+    let member = at.member + 1;
+    if member < g.n as usize {
+        return Position {
+            page: at.page + 1,
+            stripe: at.stripe,
+            member,
+            parity: at.parity,
+        };
+    }
+    let stripe = at.stripe + 1;
+    Position {
+        page: at.page + 1,
+        stripe,
+        member: 0,
+        parity: parity_chip(g, stripe),
+    }
+}
+
+// A page that cannot be read off its chip is fetched to the work page. Answers how many pages are read for it.
+fn fetch_apart(
+    work: &mut [u8],
+    chips: &[u8],
+    records: &[u8],
+    slots: &[u8],
+    g: Geometry,
+    lost: usize,
+    at: Position,
+    direct: bool,
+) -> u64
+    requires { ⌜ ChipsFit g (now chips) × RecordsFit g (now records) × SlotsFit g (now slots) × (length (now work) ≡ g .w)
+        × ((j : ℕ) → j < g .s → recordSound (layoutOf g) (recordAt (layoutOf g) (now records) j) ≡ true)
+        × (at ≡ positionOf (layoutOf g) (at .page)) × (at .page < g .n * g .s)
+        × (direct ≡ isDirect (layoutOf g) (recordAt (layoutOf g) (now records) (at .stripe)) lost (at .stripe) (at .member)) ⌝ }
+    ensures { λ r. ⌜ (r ≡ fetch (layoutOf g) (images (now (chips .entry)) (now (records .entry)) (now (slots .entry))) lost (at .page) .reads) × (r ≤ 7)
+        × (direct ≡ false → now (work .exit) ≡ contents (layoutOf g) (images (now (chips .entry)) (now (records .entry)) (now (slots .entry))) lost (at .page)) ⌝ }
+{
+    if direct {
+        return 1;
+    }
+    let got = fetch_member(work, chips, records, slots, g, lost, at.stripe, at.member);
+    got.reads
+}
+
+// A page of the log, looked at.
+struct Looked {
+    shown: Shown,
+    // pages read for it
+    reads: u64,
+    latest: Latest,
+}
+
+// Looks at a page: where it lies, if it can be read off its chip, and else in the work page.
+fn look_at_page(
+    work: &mut [u8],
+    chips: &[u8],
+    records: &[u8],
+    slots: &[u8],
+    g: Geometry,
+    lost: usize,
+    at: Position,
+    lot: u32,
+    bag: u16,
+    before: Latest,
+) -> Looked
+    requires { ⌜ ChipsFit g (now chips) × RecordsFit g (now records) × SlotsFit g (now slots) × (length (now work) ≡ g .w)
+        × ((j : ℕ) → j < g .s → recordSound (layoutOf g) (recordAt (layoutOf g) (now records) j) ≡ true)
+        × (at ≡ positionOf (layoutOf g) (at .page)) × (at .page < g .n * g .s) ⌝ }
+    ensures { λ r. ⌜ PageLooked (layoutOf g) (images (now (chips .entry)) (now (records .entry)) (now (slots .entry))) lost lot bag (at .page) before r ⌝ }
+{
+    let direct = is_direct(records, g, lost, at.stripe, at.parity, at.member);
+    let reads = fetch_apart(work, chips, records, slots, g, lost, at, direct);
+    let page = lent(
+        chips,
+        work,
+        records,
+        g,
+        at.stripe,
+        at.parity,
+        at.member,
+        direct,
+    );
+    let shown = look_at(page, lot, bag);
+    let latest = latest_of(page, shown, before);
+    Looked {
+        shown,
+        reads,
+        latest,
+    }
 }
 
 // What a walk of the log tells.
@@ -166,9 +302,9 @@ fn broken() -> Walk
     }
 }
 
-// Walks the log page by page; the page of its end is left in the buffer.
+// Walks the log page by page.
 pub fn walk_log(
-    page: &mut [u8],
+    work: &mut [u8],
     chips: &[u8],
     records: &[u8],
     slots: &[u8],
@@ -177,39 +313,42 @@ pub fn walk_log(
     lot: u32,
     bag: u16,
 ) -> Walk
-    requires { ⌜ ChipsFit g (now chips) × RecordsFit g (now records) × SlotsFit g (now slots) × (length (now page) ≡ g .w)
+    requires { ⌜ ChipsFit g (now chips) × RecordsFit g (now records) × SlotsFit g (now slots) × (length (now work) ≡ g .w)
         × ((j : ℕ) → j < g .s → recordSound (layoutOf g) (recordAt (layoutOf g) (now records) j) ≡ true) ⌝ }
-    ensures { λ r. ⌜ Walked (layoutOf g) (images (now (chips .entry)) (now (records .entry)) (now (slots .entry))) lost lot bag r (now (page .exit)) ⌝ }
+    ensures { λ r. ⌜ Walked (layoutOf g) (images (now (chips .entry)) (now (records .entry)) (now (slots .entry))) lost lot bag r ⌝ }
 {
-    let n = g.n as usize;
-    let places = page.len() / TICKET;
-    let pages = n * g.s as usize;
-    let mut standing = Standing::Nothing;
+    let places = work.len() / TICKET;
+    let pages = g.n as usize * g.s as usize;
+    let mut latest = Latest {
+        weight: false,
+        gross: 0,
+        tare: 0,
+    };
     let mut reads = 0;
-    let mut i = 0;
-    while i < pages {
-        let got = fetch_member(page, chips, records, slots, g, lost, i / n, i % n);
-        reads += got.reads;
-        let shown = look_at(page, lot, bag);
+    let mut at = first_page(g);
+    while at.page < pages {
+        let seen = look_at_page(work, chips, records, slots, g, lost, at, lot, bag, latest);
+        reads += seen.reads;
+        latest = seen.latest;
+        let shown = seen.shown;
         if !shown.ended {
             return broken();
         }
-        let next = stands(page, shown, standing);
         if shown.kept < places {
             return Walk {
                 sound: true,
-                end: Found::At(i * places + shown.kept),
+                end: Found::At(at.page * places + shown.kept),
                 reads,
-                standing: next,
+                standing: standing_of(latest),
             };
         }
-        standing = next;
-        i += 1;
+        let next = next_page(g, at);
+        at = next;
     }
     Walk {
         sound: true,
         end: Found::Nothing,
         reads,
-        standing,
+        standing: standing_of(latest),
     }
 }

@@ -1,5 +1,5 @@
 -- From what the parts of a call bring to its one equation.
-use Prim.Native.Nat.{ℕ, _%_, _^_, _<_, min}
+use Prim.Native.Nat.{ℕ, _^_, _<_, min}
 use native.Mathlib.Omega.{arith}
 use mathlib.Core.Path.{_≡_, refl, sym, ap, _∙_}
 use mathlib.Core.Bool.{Bool, true, false, _&&_}
@@ -10,7 +10,6 @@ use borrow.Author.Tests.{eqb-true}
 use Rattle.ranges.specs.declared.Found.the-variants.{At, Nothing}
 use Rattle.ranges.specs.Look.{whenFound}
 use Rattle.ranges.proofs.Looks.{first-at}
-use Rattle.bytes.specs.Units.{unitPut}
 use Rattle.layout.specs.declared.Geometry.{Geometry}
 use Rattle.layout.specs.Layout.{Layout, layoutOf, noChip}
 use Rattle.layout.specs.Images.{Images}
@@ -25,7 +24,7 @@ use Rattle.rules.specs.declared.Check.the-variants.{Passed, Failed}
 use Rattle.rules.specs.declared.Answer.the-variants.{Refused}
 use Rattle.rules.specs.declared.Finding.the-variants.{Done as FindDone, Refused as FindRefused}
 use Rattle.rules.specs.Tickets.{ticketBytes, ticketOf, isEmpty, ticketSound}
-use Rattle.rules.specs.Log.{perPage, places, fallsIn, ticketAt, contents, logEnd, logOpen, logReads, withTicket, addSteps}
+use Rattle.rules.specs.Log.{places, fallsIn, ticketAt, contents, logEnd, logOpen, logReads, withTicket, addSteps}
 use Rattle.rules.specs.Write.{writeSteps}
 use Rattle.rules.specs.Refusals.{Row, unless, checked, chipSetRow, imagesRows, settledRows, logRow, findRows, addRows}
 use Rattle.rules.specs.Calls.{Outcome, addCall, findCall}
@@ -150,16 +149,15 @@ module _ (g : Geometry) (s : Images) (lost : ℕ) where
             let is = told-whole l s lost lot bag told h .1 ∙ end in
             first-at (places l) (λ t. isEmpty (ticketAt l (contents l s lost) t)) t is .0
 
-        pub add-ran : {p q : Progress} {u : Images} {page : List ℕ} → w .sound ≡ true → (t : ℕ) → w .end ≡ At t → page ≡ contents l s lost (fallsIn l t)
-            → p ≡ started (reading (w .reads)) (min a (2 ^ 59))
-            → Ran l p (writeSteps l (fallsIn l t) (unitPut ticketBytes (t % perPage l) ticket page) s) q s u
+        pub add-ran : {p q : Progress} {u : Images} → w .sound ≡ true → (t : ℕ) → w .end ≡ At t → p ≡ started (reading (w .reads)) (min a (2 ^ 59))
+            → Ran l p (writeSteps l (fallsIn l t) (withTicket l (contents l s lost) ticket t) s) q s u
             → _≡_ {A = Outcome} (record { answer = answerOf q; images = u }) (addCall l s lost ticket a)
-        unfolding addCall logOpen addSteps withTicket whenFound
-        add-ran {p} {q} {u} {page} h t end left begun ran =
+        unfolding addCall logOpen addSteps whenFound
+        add-ran h t end begun ran =
             let is = told-whole l s lost lot bag told h in
             let at-end = is .1 ∙ end in
-            let xs = writeSteps l (fallsIn l t) (unitPut ticketBytes (t % perPage l) ticket page) s in
-            let steps : addSteps l lost ticket s ≡ xs = rw (at-end, left) in
-            call-ran l (reading (logReads l s lost)) s a (addSteps l lost ticket) (addRows l s lost ticket) xs (rows-split ∙ rw (e .rows, is .0, at-end)) steps
-            (omega (arith, write-length l (fallsIn l t) (unitPut ticketBytes (t % perPage l) ticket page) s, places-most l (e .fit .within-limits)))
+            let page = withTicket l (contents l s lost) ticket t in
+            call-ran l (reading (logReads l s lost)) s a (addSteps l lost ticket) (addRows l s lost ticket) (writeSteps l (fallsIn l t) page s)
+            (rows-split ∙ rw (e .rows, is .0, at-end)) (rw at-end)
+            (omega (arith, write-length l (fallsIn l t) page s, places-most l (e .fit .within-limits)))
             (begun ∙ ap (λ (n : ℕ). started (reading n) (min a (2 ^ 59))) (sym (is .2))) ran

@@ -2,6 +2,7 @@
 
 use answers::answer;
 use device::start_after;
+use fetch::fetch_member;
 use layout::Geometry;
 use layout::NO_CHIP;
 use log::TICKET;
@@ -23,18 +24,18 @@ use steps::Counts;
 use steps::Progress;
 use write::write_member;
 ghost use mathlib.Core.Path.{_≡_};
-ghost use mathlib.Core.Bool.{_&&_};
+ghost use mathlib.Core.Bool.{true, _&&_};
 ghost use mathlib.Core.List.{[], _∷_};
-ghost use Prim.Native.Nat.{_%_, _<_};
+ghost use Prim.Native.Nat.{ℕ, _<_};
 ghost use lib.Dec.{eqb};
 ghost use lib.ListN.{length};
-ghost use Rattle.bytes.specs.Units.{unitPut};
 ghost use Rattle.layout.specs.Layout.{layoutOf};
 ghost use Rattle.layout.specs.Record.{recordAt};
 ghost use Rattle.steps.specs.Allowance.{images, Sane, Ran};
 ghost use Rattle.rules.specs.declared.Refusal.the-variants.{Data, Tickets};
 ghost use Rattle.rules.specs.Tickets.{ticketBytes, ticketOf, ticketSound};
-ghost use Rattle.rules.specs.Log.{perPage, places, fallsIn};
+ghost use Rattle.rules.specs.Log.{places, fallsIn, withTicket, contents};
+ghost use Rattle.rules.specs.Sound.{recordSound};
 ghost use Rattle.rules.specs.Write.{writeSteps};
 ghost use Rattle.rules.specs.Refusals.{checked, chipSetRow};
 ghost use Rattle.rules.specs.Calls.{Outcome, addCall, findCall};
@@ -64,13 +65,14 @@ fn given_check(first: Check, ticket: &[u8], lost: u64) -> Check
     also(free, is_ticket(ticket), Refusal::Tickets)
 }
 
-// Writes the page of the log's end with the ticket at place t.
+// Writes the page that place t falls in, with the ticket there.
 fn append(
     chips: &mut [u8],
     records: &mut [u8],
     slots: &mut [u8],
     page: &mut [u8],
     g: Geometry,
+    lost: usize,
     t: usize,
     ticket: &[u8],
     scans: [ChipScan; 7],
@@ -79,31 +81,25 @@ fn append(
 ) -> Progress
     requires { ⌜ Settled g (now chips) (now records) × SlotsFit g (now slots) × (length (now page) ≡ g .w) × (t < places (layoutOf g))
         × (length (now ticket) ≡ ticketBytes) × Sane p
-        × Victims g (now chips) (now records) scans × (seen ≡ slotScan (layoutOf g) (recordAt (layoutOf g) (now records))) ⌝ }
+        × Victims g (now chips) (now records) scans × (seen ≡ slotScan (layoutOf g) (recordAt (layoutOf g) (now records)))
+        × ((j : ℕ) → j < g .s → recordSound (layoutOf g) (recordAt (layoutOf g) (now records) j) ≡ true) ⌝ }
     ensures { λ r. ⌜ Ran (layoutOf g) p
-        (writeSteps (layoutOf g) (fallsIn (layoutOf g) t) (unitPut ticketBytes (t % perPage (layoutOf g)) (now (ticket .entry)) (now (page .entry)))
+        (writeSteps (layoutOf g) (fallsIn (layoutOf g) t)
+        (withTicket (layoutOf g) (contents (layoutOf g) (images (now (chips .entry)) (now (records .entry)) (now (slots .entry))) lost) (now (ticket .entry)) t)
         (images (now (chips .entry)) (now (records .entry)) (now (slots .entry))))
         r (images (now (chips .entry)) (now (records .entry)) (now (slots .entry))) (images (now (chips .exit)) (now (records .exit)) (now (slots .exit))) ⌝ }
 {
-    let n = g.n as usize;
     let w = g.w as usize;
     let per_page = w / TICKET;
     let i = t / per_page;
+    let j = i / g.n as usize;
+    let m = i % g.n as usize;
+    // its read is among those of the walk
+    let _got = fetch_member(page, chips, records, slots, g, lost, j, m);
     put_ticket(page, t % per_page, ticket);
     let mut work = [0u8; 4096];
-    write_member(
-        chips,
-        records,
-        slots,
-        &mut work[0..w],
-        g,
-        i / n,
-        i % n,
-        page,
-        scans,
-        seen,
-        p,
-    )
+    let fresh = &mut work[0..w];
+    write_member(chips, records, slots, fresh, g, j, m, page, scans, seen, p)
 }
 
 // Adds a ticket at the end of the log.
@@ -145,6 +141,7 @@ pub fn add(
                 slots,
                 &mut page[0..w],
                 g,
+                chip,
                 t,
                 ticket,
                 scans,

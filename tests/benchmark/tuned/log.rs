@@ -1,11 +1,16 @@
-//! The log of tickets, walked where it lies.
+//! The log of tickets, walked stripe by stripe.
 
 use super::check::Look;
 use super::{number, rebuild};
-use crate::reference::{Refusal, NONE, TICKET_BYTES, WEIGHT, WITHDRAWAL};
+use crate::reference::{Refusal, Shape, MEMBERS, NONE, RECORD_BYTES, TICKET_BYTES, WEIGHT, WITHDRAWAL};
+use std::ops::RangeInclusive;
 
 /// The most bytes to a page.
 pub const MOST_PAGE: usize = 4_096;
+
+/// Pages of so many bytes are copied, all of a stripe, before any is looked at: so the memory brings several
+/// at a time. Of shorter ones it does anyway, and of longer ones each has lines enough.
+const COPIED: RangeInclusive<usize> = 256..=1_024;
 
 /// So many tickets are looked at together, as many as the compiler compares at once.
 const TOGETHER: usize = 4;
@@ -44,41 +49,96 @@ impl Wanted {
     }
 }
 
-/// Whether a ticket is not sound, or is wanted. Each comparison is made of all of them at once.
-fn any_special(group: &[Bytes; TOGETHER], wanted: Wanted) -> bool {
-    let mut special = 0;
-    for ticket in group {
-        let (first, lot, gross, tare) = (word(ticket, 0), word(ticket, 4), word(ticket, 8), word(ticket, 12));
-        let kind = first & 0xffff;
-        let withdrawal = (kind == WITHDRAWAL as u32) & (gross == 0);
-        let sound = (((kind == WEIGHT as u32) as u32) | withdrawal as u32) & (tare <= gross) as u32;
-        special |= sound ^ 1;
-        special |= ((lot == wanted.lot) & (first >> 16 == wanted.bag as u32)) as u32;
+/// How many of the groups come before the first with a ticket that is not sound, or is wanted. In a function
+/// of its own each comparison is made of a whole group at once.
+#[inline(never)]
+fn usual(groups: &[[Bytes; TOGETHER]], wanted: Wanted) -> usize {
+    let is_usual = |group: &[Bytes; TOGETHER]| {
+        let mut special = 0;
+        for ticket in group {
+            let (first, lot, gross) = (word(ticket, 0), word(ticket, 4), word(ticket, 8));
+            let kind = first & 0xffff;
+            let known = (kind == WEIGHT as u32) as u32 | ((kind == WITHDRAWAL as u32) & (gross == 0)) as u32;
+            special |= (known & (word(ticket, 12) <= gross) as u32) ^ 1;
+            special |= ((lot == wanted.lot) & (first >> 16 == wanted.bag as u32)) as u32;
+        }
+        special == 0
+    };
+    groups.iter().position(|group| !is_usual(group)).unwrap_or(groups.len())
+}
+
+/// The pages of one stripe after the other.
+struct Pages<'a> {
+    look: Look<'a>,
+    lost: usize,
+    copied: bool,
+    copies: [u8; MEMBERS * MOST_PAGE],
+    stripe: usize,
+    record: &'a [u8; RECORD_BYTES],
+    parity_chip: usize,
+}
+
+impl<'a> Pages<'a> {
+    fn new(look: Look<'a>, lost: Option<usize>) -> Pages<'a> {
+        Pages {
+            look,
+            lost: lost.unwrap_or(usize::MAX),
+            copied: COPIED.contains(&look.shape.w),
+            copies: [0; MEMBERS * MOST_PAGE],
+            stripe: 0,
+            record: look.record(0),
+            parity_chip: 0,
+        }
     }
-    special != 0
+
+    fn begin(&mut self, stripe: usize) {
+        let Shape { n, w, .. } = self.look.shape;
+        self.stripe = stripe;
+        self.record = self.look.record(stripe);
+        self.parity_chip = self.look.shape.parity_chip(stripe);
+        for member in 0..if self.copied { n } else { 0 } {
+            let (chip, current) = self.place(member);
+            if current != NONE && chip != self.lost {
+                self.copies[member * w..][..w].copy_from_slice(self.look.data(chip, current));
+            }
+        }
+    }
+
+    /// The chip of a member, and the page there.
+    fn place(&self, member: usize) -> (usize, u16) {
+        (member + (member >= self.parity_chip) as usize, number(self.record, 2 * member))
+    }
+
+    /// A member's page and its reads, or nothing if it was never written.
+    fn page(&mut self, member: usize) -> Option<(&[u8], u64)> {
+        let w = self.look.shape.w;
+        let (chip, current) = self.place(member);
+        if current == NONE {
+            return None;
+        }
+        let copy = &mut self.copies[member * w..][..w];
+        if chip == self.lost {
+            let reads = rebuild(self.look, self.stripe, member, copy);
+            return Some((copy, reads));
+        }
+        Some((if self.copied { copy } else { self.look.data(chip, current) }, 1))
+    }
 }
 
 pub fn walk(look: Look, lost: Option<usize>, wanted: Wanted) -> Result<Log, Refusal> {
-    let (n, w) = (look.shape.n, look.shape.w);
-    let mut work = [0; MOST_PAGE];
+    let Shape { n, s, .. } = look.shape;
+    let mut pages = Pages::new(look, lost);
     let mut log = Log { reads: 0, end: None, standing: None };
-    for stripe in 0..look.shape.s {
-        let record = look.record(stripe);
+    for stripe in 0..s {
+        pages.begin(stripe);
         for member in 0..n {
-            let chip = look.shape.member_chip(stripe, member);
-            let page = match number(record, 2 * member) {
-                NONE => return Ok(Log { end: Some((stripe * n + member, 0)), ..log }),
-                _ if lost == Some(chip) => {
-                    log.reads += rebuild(look, stripe, member, &mut work[..w]);
-                    &work[..w]
-                }
-                current => {
-                    log.reads += 1;
-                    look.data(chip, current)
-                }
+            let number = stripe * n + member;
+            let Some((page, reads)) = pages.page(member) else {
+                return Ok(Log { end: Some((number, 0)), ..log });
             };
+            log.reads += reads;
             if let Some(at) = log.see(page, wanted) {
-                let end = Some((stripe * n + member, at));
+                let end = Some((number, at));
                 return if page[at] == 0 { Ok(Log { end, ..log }) } else { Err(Refusal::Ticket) };
             }
         }
@@ -91,11 +151,14 @@ impl Log {
     fn see(&mut self, page: &[u8], wanted: Wanted) -> Option<usize> {
         let tickets = page.as_chunks::<TICKET_BYTES>().0;
         let (groups, rest) = tickets.as_chunks::<TOGETHER>();
-        for (i, group) in groups.iter().enumerate() {
-            if any_special(group, wanted) {
+        let mut seen = 0;
+        while seen < groups.len() {
+            seen += usual(&groups[seen..], wanted);
+            if let Some(group) = groups.get(seen) {
                 if let Some(bad) = self.see_each(group, wanted) {
-                    return Some(TICKET_BYTES * (TOGETHER * i + bad));
+                    return Some(TICKET_BYTES * (TOGETHER * seen + bad));
                 }
+                seen += 1;
             }
         }
         let bad = self.see_each(rest, wanted)?;
@@ -104,10 +167,15 @@ impl Log {
 
     /// The first that is not sound.
     fn see_each(&mut self, tickets: &[Bytes], wanted: Wanted) -> Option<usize> {
-        let bad = tickets.iter().position(|ticket| !is_sound(ticket));
-        let before = &tickets[..bad.unwrap_or(tickets.len())];
-        self.standing = before.iter().rfind(|ticket| wanted.is(ticket)).copied().or(self.standing);
-        bad
+        for (i, ticket) in tickets.iter().enumerate() {
+            if !is_sound(ticket) {
+                return Some(i);
+            }
+            if wanted.is(ticket) {
+                self.standing = Some(*ticket);
+            }
+        }
+        None
     }
 
     /// Whether a weight stands, gross and tare.

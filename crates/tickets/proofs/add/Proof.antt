@@ -67,6 +67,7 @@ append-requires c κs =
       c .before .before .before .before .start-after .ensures .1,
       h .ready .known,
       h .ready .slots,
+      h .fit .stripe,
     )
 
 returns-3 : tie.Need-returns-3
@@ -75,7 +76,7 @@ returns-3 c =
     let end = c .before .before .before .before .before .before .before .before .before .before .before .before .before .before .before .before .before .end .given in
     rw (c .answer .ensures)
     (add-ran _ _ _ _ _ (passed (k .before .before .before .before .before)) 0 0 (k .walk-log .ensures .tells) (not-false _ (c .before .before .before .before .before .before .before .before .before .before .before .before .before .before .before .before .before .before .before .if1 .left)) (end .0 .0) (end .1)
-    (front k .1 ∙ k .walk-log .ensures .page-left (end .0 .0) (end .1)) (c .before .before .before .before .before .before .before .before .before .before .before .before .before .start-after .ensures .0) (c .before .before .before .before .before .before .before .before .append .ensures))
+    (c .before .before .before .before .before .before .before .before .before .before .before .before .before .start-after .ensures .0) (c .before .before .before .before .before .before .before .before .append .ensures))
 
 returns-4 : tie.Need-returns-4
 returns-4 c =
