@@ -4,21 +4,24 @@ use native.Mathlib.Nat.{add-zero, add-suc}
 use native.Mathlib.Numerals.{add-one}
 use native.Mathlib.Omega.{arith}
 use mathlib.Core.Path.{_≡_, refl, sym, ap, _∙_}
+use mathlib.Core.Logic.{_≢_}
 use mathlib.Core.Bool.{Bool, true, false, cond, _||_}
 use mathlib.Core.List.{List}
 use lib.ListN.{length, getD}
+use borrow.Author.Tests.{le-leb, ne-eqb}
 use Rattle.ranges.specs.declared.Found.{Found}
 use Rattle.ranges.specs.declared.Found.the-variants.{At, Nothing}
 use Rattle.ranges.specs.Look.{allBelow, lastBelow, whenFound}
 use Rattle.ranges.proofs.Looks.{by-test, by-order, all-true, all-at, last-at}
 use Rattle.bytes.specs.Number.{number}
 use Rattle.bytes.specs.Units.{part, unit}
+use Rattle.bytes.proofs.Lists.{number-two}
 use Rattle.bytes.proofs.Units.{part-unit, getD-unit}
 use Rattle.rules.specs.declared.Ticket.{Ticket}
 use Rattle.rules.specs.declared.Standing.{Standing}
 use Rattle.rules.specs.Tickets.{ticketBytes, ticketOf, ticketSound, isFor, weightOf}
 use Rattle.log.specs.declared.Shown.{Shown}
-use Rattle.log.specs.Walks.{Seen, ticketsIn, PageShows}
+use Rattle.log.specs.Walks.{Seen, Plain, ticketsIn, PageShows}
 
 -- the fields of ticket i of a page, where they lie
 pub ticket-is : (page : List ℕ) (i : ℕ)
@@ -62,6 +65,16 @@ module _ (x : ℕ → Ticket) (lot bag : ℕ) where
   unfolding allBelow lastBelow
   seen-more {n} {latest} {found} s h =
       rw add-one (record { sound = rw (s .sound, h); told = last-by found (isFor lot bag (x n)) n latest (s .told) })
+
+  -- tickets that are sound, and not for the lot and bag
+  pub seen-run : (k : ℕ) {n latest : ℕ} {found : Bool} → Seen x lot bag n found latest → ((t : ℕ) → n ≤ t → t < n + k → (ticketSound (x t) ≡ true) × (isFor lot bag (x t) ≡ false))
+      → Seen x lot bag (n + k) found latest
+  unfolding allBelow lastBelow
+  seen-run zero s h = rw add-zero s
+  seen-run (suc k) {n} s h =
+      let t = seen-run k s (λ i low high. h i low (omega arith)) in
+      let last = h (n + k) (omega arith) (omega arith) in
+      rw add-suc (record { sound = rw (t .sound, last .0); told = t .told ∙ rw (last .1) })
 
   -- what stands after n tickets, where `first` stood
   abbrev pub stood : Standing → ℕ → Standing
@@ -121,3 +134,27 @@ pub latest-fits : {page : List ℕ} {lot bag : ℕ} {r : Shown} → PageShows pa
 latest-fits {page} {lot} {bag} {r} p e =
     let last : lastBelow (r .kept) (λ t. isFor lot bag (ticketsIn page t)) ≡ At (r .latest) = sym (rw e at (p .seen .told)) in
     omega (arith, last-at (r .kept) (λ t. isFor lot bag (ticketsIn page t)) (r .latest) last, p .few)
+
+-- the numbers that a short look compares
+plain-by : (t : Ticket) (lot : ℕ) → t .kind ≡ 1 → t .blank ≡ 0 → t .tare ≤ t .gross → t .lot ≢ lot → (ticketSound t ≡ true) × ((bag : ℕ) → isFor lot bag t ≡ false)
+unfolding ticketSound
+plain-by t lot kind blank tare other = (rw (kind, blank, le-leb (t .tare) (t .gross) tare), λ bag. rw (ne-eqb (t .lot) lot other))
+
+pub plain-is : (page : List ℕ) (i lot : ℕ) → i * 16 + 16 ≤ length page → number (part (i * 16) 2 page) ≡ 1
+    → number (part (i * 16 + 12) 4 page) ≤ number (part (i * 16 + 8) 4 page) → number (part (i * 16 + 4) 4 page) ≢ lot → Plain page lot i
+plain-is page i lot fits first tare other =
+    let is = ticket-is page i in
+    let two : getD page (i * 16) 0 + 256 * getD page (i * 16 + 1) 0 ≡ 1 = sym (number-two page (i * 16) (omega arith)) ∙ first in
+    let h = plain-by (ticketsIn page i) lot
+    (sym (ap (λ (t : Ticket). t .kind) is) ∙ omega (arith, two))
+    (sym (ap (λ (t : Ticket). t .blank) is) ∙ omega (arith, two))
+    (rw (sym (ap (λ (t : Ticket). t .tare) is), sym (ap (λ (t : Ticket). t .gross) is)) tare)
+    (λ e. other (ap (λ (t : Ticket). t .lot) is ∙ e)) in
+    record { sound = h .0; other = h .1 }
+
+-- plain tickets behind those that were seen
+pub seen-plain : {page : List ℕ} {lot bag n r latest : ℕ} {found : Bool} → Seen (ticketsIn page) lot bag n found latest → n ≤ r
+    → ((t : ℕ) → n ≤ t → t < r → Plain page lot t) → Seen (ticketsIn page) lot bag r found latest
+seen-plain {page} {lot} {bag} {n} {r} s low plain =
+    let e : n + (r - n) ≡ r = omega arith in
+    rw e at (seen-run (ticketsIn page) lot bag (r - n) s (λ t from to. let p = plain t from (omega arith) in (p .sound, p .other bag)))

@@ -42,7 +42,12 @@ walkOf l s lost lot bag =
 abbrev pub ticketsIn : List ℕ → ℕ → Ticket
 ticketsIn page t = ticketOf (unit ticketBytes t page)
 
--- of the tickets x 0, x 1, .. the first n are sound; some of them are for the lot and bag, and this is the latest
+-- ticket t of a page is sound and of another lot
+pub record Plain (page : List ℕ) (lot t : ℕ) : Type 0 where
+  pub sound : ticketSound (ticketsIn page t) ≡ true
+  pub other : (bag : ℕ) → isFor lot bag (ticketsIn page t) ≡ false
+
+-- of the tickets x 0, x 1, .. the first n are sound; whether some of them are for the lot and bag, and which is the latest
 pub record Seen (x : ℕ → Ticket) (lot bag n : ℕ) (found : Bool) (latest : ℕ) : Type 0 where
   pub sound : allBelow n (λ t. ticketSound (x t)) ≡ true
   pub told : cond found (At latest) Nothing ≡ lastBelow n (λ t. isFor lot bag (x t))

@@ -27,7 +27,7 @@ ghost use Rattle.rules.specs.Log.{contents};
 ghost use Rattle.fetch.specs.Into.{isDirect};
 ghost use Rattle.rules.specs.Tickets.{ticketBytes, ticketOf, ticketSound, isFor, weightOf};
 ghost use Rattle.codec.specs.Fit.{ChipsFit, RecordsFit, SlotsFit};
-ghost use Rattle.log.specs.Walks.{broken as brokenWalk, ticketsIn, standingFrom, positionOf, PageShows, PageLooked, Walked};
+ghost use Rattle.log.specs.Walks.{broken as brokenWalk, ticketsIn, standingFrom, positionOf, Plain, PageShows, PageLooked, Walked};
 
 // The bytes of a ticket.
 pub const TICKET: usize = 16;
@@ -93,6 +93,33 @@ struct Shown {
     latest: usize,
 }
 
+// A short look: true of a sound weight of another lot, as nearly all tickets of a log are; of the others nothing is said.
+fn is_plain(page: &[u8], i: usize, lot: u32) -> bool
+    requires { ⌜ i * ticketBytes + ticketBytes ≤ length (now page) ⌝ }
+    ensures { λ r. ⌜ (r ≡ true → Plain (now (page .entry)) lot i) ⌝ }
+{
+    let a = i * TICKET;
+    (number_at(page, a) == 1)
+        & (number_of_four(page, a + 12) <= number_of_four(page, a + 8))
+        & (number_of_four(page, a + 4) != lot as usize)
+}
+
+// The place of the next ticket that is to be looked at in full, or the end of the page.
+fn plain_to(page: &[u8], first: usize, lot: u32) -> usize
+    requires { ⌜ first ≤ length (now page) / ticketBytes ⌝ }
+    ensures { λ r. ⌜ (first ≤ r) × (r ≤ length (now (page .entry)) / ticketBytes) × ((t : ℕ) → first ≤ t → t < r → Plain (now (page .entry)) lot t) ⌝ }
+{
+    let places = page.len() / TICKET;
+    let mut i = first;
+    while i < places {
+        if !is_plain(page, i, lot) {
+            return i;
+        }
+        i += 1;
+    }
+    i
+}
+
 // Looks at the tickets of a page. What is carried from one to the next are numbers alone, so that it stays in registers.
 fn look_at(page: &[u8], lot: u32, bag: u16) -> Shown
     ensures { λ r. ⌜ PageShows (now (page .entry)) lot bag r ⌝ }
@@ -100,7 +127,7 @@ fn look_at(page: &[u8], lot: u32, bag: u16) -> Shown
     let places = page.len() / TICKET;
     let mut found = false;
     let mut latest = 0;
-    let mut i = 0;
+    let mut i = plain_to(page, 0, lot);
     while i < places {
         let t = ticket_in(page, i);
         if !is_sound(t) {
@@ -115,7 +142,8 @@ fn look_at(page: &[u8], lot: u32, bag: u16) -> Shown
         let later = pick(fits, i, latest);
         found = found | fits;
         latest = later;
-        i += 1;
+        let next = plain_to(page, i + 1, lot);
+        i = next;
     }
     Shown {
         kept: i,

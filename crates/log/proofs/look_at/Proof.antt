@@ -7,7 +7,7 @@ use borrow.Author.Tests.{not-true, not-false}
 use Rattle.rules.specs.declared.Ticket.{Ticket}
 use Rattle.rules.specs.Tickets.{isEmpty, ticketSound}
 use Rattle.log.specs.Walks.{Seen, ticketsIn}
-use Rattle.log.proofs.Seeing.{seen-none, seen-more}
+use Rattle.log.proofs.Seeing.{seen-none, seen-more, seen-plain}
 use Rattle.log.proofs.look_at.Statement.{statement}
 use Rattle.log.proofs.look_at.Tie as tie
 
@@ -18,7 +18,10 @@ abbrev μ-loop : tie.MeasureT-loop
 μ-loop page lot bag places found₀ latest₀ i₀ found latest i = places - i
 
 loop-holds : tie.Need-loop-holds Inv-loop μ-loop
-loop-holds c = let a = c .before .args in (omega arith, seen-none (ticketsIn (a .page .now)) (a .lot) (a .bag))
+loop-holds c =
+    let a = c .before .before .args in
+    let run = c .plain-to .ensures in
+    (run .1, seen-plain (seen-none (ticketsIn (a .page .now)) (a .lot) (a .bag)) (run .0) (run .2))
 
 returns : tie.Need-returns Inv-loop μ-loop
 returns c =
@@ -34,12 +37,15 @@ returns c =
 
 loop-again : tie.Need-loop-again Inv-loop μ-loop
 loop-again c =
-    let k = c .before .before .before .before in
-    let a = c .before .before .before .before .before .before .before .before .args in (
-      omega arith,
-      rw (c .pick .ensures, c .before .is-for .ensures, k .ticket-in .ensures)
+    let k = c .before .before .before .before .before in
+    let a = c .before .before .before .before .before .before .before .before .before .before .args in
+    let run = c .plain-to2 .ensures in (
+      run .1,
+      seen-plain
+          (rw (c .before .pick .ensures, c .before .before .is-for .ensures, k .ticket-in .ensures)
           (seen-more (ticketsIn (a .page .now)) (a .lot) (a .bag) (k .before .before .loop .inv .1)
-          (ap ticketSound (sym (k .ticket-in .ensures)) ∙ sym (c .before .before .before .is-sound .ensures) ∙ not-false _ (c .before .before .if1 .left))),
+          (ap ticketSound (sym (k .ticket-in .ensures)) ∙ sym (c .before .before .before .before .is-sound .ensures) ∙ not-false _ (c .before .before .before .if1 .left))))
+          (run .0) (run .2),
     )
 
 returns-2 : tie.Need-returns-2 Inv-loop μ-loop
@@ -53,6 +59,7 @@ look-at-spec =
     (tie.spec
     Inv-loop
     μ-loop
+    (λ c κs. omega arith)
     loop-holds
     (λ c κs. search needs)
     (λ c κs. search needs)
@@ -60,6 +67,7 @@ look-at-spec =
     (λ c κs. search needs)
     (λ c κs. search needs)
     (λ c. search needs)
-    (λ c. search needs)
+    (λ c κs. search needs)
+    (λ c. omega (arith, c .plain-to2 .ensures .0, c .plain-to2 .ensures .1, c .before .before .before .before .before .before .loop-test .taken))
     loop-again
     returns-2)
