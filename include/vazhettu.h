@@ -118,7 +118,7 @@ enum {
      * A ticket breaks its rules: the one that is given, or one in the log. An add never puts such a ticket into a page, so one in
      * the log is from a write, and a write can mend its page.
      */
-    VAZHETTU_TICKETS = 11,
+    VAZHETTU_BAD_TICKET = 11,
     /* The log fills every page, and takes no ticket more. */
     VAZHETTU_FULL_LOG = 12,
     /*

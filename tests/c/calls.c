@@ -340,9 +340,9 @@ static void test_behind_the_end(void) {
     weigh(4, 40000, 0, ALL);
     expect(stands(NONE, 4, 40000, 0, 5), "the log ends before a ticket that breaks the rules");
     expect(weigh(5, 40100, 0, ALL).status == VAZHETTU_DONE, "and takes one more");
-    expect(find_refused(NONE, VAZHETTU_TICKETS) && find_refused(0, VAZHETTU_TICKETS), "then that one is found");
-    expect(refused(weigh(7, 40200, 0, ALL), VAZHETTU_TICKETS), "also where one more is added");
-    expect(refused(add(VAZHETTU_WEIGHT, 7, 7, 1, 2, ALL), VAZHETTU_TICKETS), "be it right or not");
+    expect(find_refused(NONE, VAZHETTU_BAD_TICKET) && find_refused(0, VAZHETTU_BAD_TICKET), "then that one is found");
+    expect(refused(weigh(7, 40200, 0, ALL), VAZHETTU_BAD_TICKET), "also where one more is added");
+    expect(refused(add(VAZHETTU_WEIGHT, 7, 7, 1, 2, ALL), VAZHETTU_BAD_TICKET), "be it right or not");
     expect(read_page(NONE, 4).status == VAZHETTU_DONE, "reads and writes do not ask for the rules");
     memset(page + 16, 0, 16);
     expect(vazhettu_write(g, STORE, NONE, 4, page, W, ALL).status == VAZHETTU_DONE, "and a write mends the page");
@@ -368,17 +368,17 @@ static void test_tickets_refused(void) {
     expect(add_refused(0, weight, 16, VAZHETTU_CHIP_LOST), "no addition with a chip lost");
     expect(add_refused(0, empty, 16, VAZHETTU_CHIP_LOST), "whatever the ticket");
     expect(add_refused(5, weight, 16, VAZHETTU_BAD_LOST_CHIP) && find_refused(5, VAZHETTU_BAD_LOST_CHIP), "no chip 5");
-    expect(add_refused(NONE, empty, 16, VAZHETTU_TICKETS), "an empty ticket cannot be added");
-    expect(refused(add(3, 1, 7, 2, 2, ALL), VAZHETTU_TICKETS), "there is no kind 3");
-    expect(refused(weigh(1, 2, 3, ALL), VAZHETTU_TICKETS), "tare is never above gross");
-    expect(refused(weigh(1, 255, 256, ALL), VAZHETTU_TICKETS), "in all its bytes");
-    expect(refused(add(VAZHETTU_WITHDRAWAL, 1, 7, 1, 0, ALL), VAZHETTU_TICKETS), "a withdrawal has no gross");
-    expect(refused(add(VAZHETTU_WITHDRAWAL, 1, 7, 1, 1, ALL), VAZHETTU_TICKETS), "nor a tare");
+    expect(add_refused(NONE, empty, 16, VAZHETTU_BAD_TICKET), "an empty ticket cannot be added");
+    expect(refused(add(3, 1, 7, 2, 2, ALL), VAZHETTU_BAD_TICKET), "there is no kind 3");
+    expect(refused(weigh(1, 2, 3, ALL), VAZHETTU_BAD_TICKET), "tare is never above gross");
+    expect(refused(weigh(1, 255, 256, ALL), VAZHETTU_BAD_TICKET), "in all its bytes");
+    expect(refused(add(VAZHETTU_WITHDRAWAL, 1, 7, 1, 0, ALL), VAZHETTU_BAD_TICKET), "a withdrawal has no gross");
+    expect(refused(add(VAZHETTU_WITHDRAWAL, 1, 7, 1, 1, ALL), VAZHETTU_BAD_TICKET), "nor a tare");
     for (int i = 0; i < 2; i++) {
         uint8_t other[16];
         memcpy(other, weight, 16);
         other[i] = 4;
-        expect(add_refused(NONE, other, 16, VAZHETTU_TICKETS), "the first two bytes are what they must be");
+        expect(add_refused(NONE, other, 16, VAZHETTU_BAD_TICKET), "the first two bytes are what they must be");
     }
     expect(same_store(), "a refused addition changes nothing");
     struct vazhettu_geometry other = g;
@@ -404,7 +404,7 @@ static void test_full_log(void) {
         expect(weigh((uint16_t)(i % 3), (uint32_t)i, 0, 4 * K + 13).status == VAZHETTU_DONE, "there is a place");
     copy_store(&saved, &store);
     expect(refused(weigh(1, 1, 0, ALL), VAZHETTU_FULL_LOG), "a log that fills every page is full");
-    expect(refused(weigh(1, 0, 1, ALL), VAZHETTU_TICKETS), "which is asked last");
+    expect(refused(weigh(1, 0, 1, ALL), VAZHETTU_BAD_TICKET), "which is asked last");
     expect(same_store(), "a full log stays as it is");
     expect(stands(NONE, 0, 45, 0, 24) && stands(NONE, 2, 47, 0, 24), "all its pages are read, to the last place");
     for (uint64_t chip = 0; chip <= N; chip++) {
@@ -414,7 +414,7 @@ static void test_full_log(void) {
     }
     memset(page, 0x5a, W);
     vazhettu_write(g, STORE, NONE, 23, page, W, ALL);
-    expect(refused(weigh(1, 1, 0, ALL), VAZHETTU_TICKETS), "a ticket that breaks the rules is found before that");
+    expect(refused(weigh(1, 1, 0, ALL), VAZHETTU_BAD_TICKET), "a ticket that breaks the rules is found before that");
 }
 
 int main(void) {

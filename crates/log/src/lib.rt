@@ -109,9 +109,9 @@ fn plain_to(page: &[u8], first: usize, lot: u32) -> usize
     requires { ⌜ first ≤ length (now page) / ticketBytes ⌝ }
     ensures { λ r. ⌜ (first ≤ r) × (r ≤ length (now (page .entry)) / ticketBytes) × ((t : ℕ) → first ≤ t → t < r → Plain (now (page .entry)) lot t) ⌝ }
 {
-    let places = page.len() / TICKET;
+    let per_page = page.len() / TICKET;
     let mut i = first;
-    while i < places {
+    while i < per_page {
         if !is_plain(page, i, lot) {
             return i;
         }
@@ -124,11 +124,11 @@ fn plain_to(page: &[u8], first: usize, lot: u32) -> usize
 fn look_at(page: &[u8], lot: u32, bag: u16) -> Shown
     ensures { λ r. ⌜ PageShows (now (page .entry)) lot bag r ⌝ }
 {
-    let places = page.len() / TICKET;
+    let per_page = page.len() / TICKET;
     let mut found = false;
     let mut latest = 0;
     let mut i = plain_to(page, 0, lot);
-    while i < places {
+    while i < per_page {
         let t = ticket_in(page, i);
         if !is_sound(t) {
             return Shown {
@@ -345,7 +345,7 @@ pub fn walk_log(
         × ((j : ℕ) → j < g .s → recordSound (layoutOf g) (recordAt (layoutOf g) (now records) j) ≡ true) ⌝ }
     ensures { λ r. ⌜ Walked (layoutOf g) (images (now (chips .entry)) (now (records .entry)) (now (slots .entry))) lost lot bag r ⌝ }
 {
-    let places = work.len() / TICKET;
+    let per_page = work.len() / TICKET;
     let pages = g.n as usize * g.s as usize;
     let mut latest = Latest {
         weight: false,
@@ -362,10 +362,10 @@ pub fn walk_log(
         if !shown.ended {
             return broken();
         }
-        if shown.kept < places {
+        if shown.kept < per_page {
             return Walk {
                 sound: true,
-                end: Found::At(at.page * places + shown.kept),
+                end: Found::At(at.page * per_page + shown.kept),
                 reads,
                 standing: standing_of(latest),
             };

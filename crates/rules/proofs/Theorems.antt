@@ -1,4 +1,4 @@
--- The theorems of the argument, for every geometry: what holds of every call by the definitions of document 01 alone.
+-- The theorems of the argument, for every geometry: what holds of every call by the definitions alone.
 use Prim.Native.Nat.{ℕ, _+_, _*_, _≤_, _<_}
 use native.Mathlib.Omega.{arith}
 use mathlib.Core.Path.{_≡_, refl, ap}
@@ -27,7 +27,7 @@ use Rattle.rules.specs.declared.Check.the-variants.{Passed, Failed}
 use Rattle.rules.specs.declared.Reading.the-variants.{Done as ReadDone}
 use Rattle.rules.specs.Blocks.{lowestCleanBlock}
 use Rattle.rules.specs.Sound.{recordsSound, chipSound, isLost}
-use Rattle.rules.specs.Refusals.{checked, recordsCheck, sparesCheck, imagesRows, writeRows, commitRows, collectRows, addRows}
+use Rattle.rules.specs.Refusals.{checked, recordsCheck, sparesCheck, imagesRows, writeRows, commitRows, collectRows, addRows, lostNamed, findRows}
 use Rattle.rules.specs.Format.{formatSteps}
 use Rattle.rules.specs.Open.{openSteps}
 use Rattle.rules.specs.Collect.{victimOf, collectSteps}
@@ -43,7 +43,7 @@ use Rattle.rules.specs.Calls.{ReadOutcome, Verdict, done, cut, refused, 
 use Rattle.rules.specs.Demand.{Demand3}
 use Rattle.rules.proofs.Soundness.Statements.{Usable, RecordsSound, ChipSound, SoundBut, Sound, sound-chip, rest-collects}
 use Rattle.rules.proofs.Soundness.Checks.{lengths-are, images-sound, lengths-pass, records-check-pass, spares-check-pass}
-use Rattle.rules.proofs.Soundness.Accepted.{images-accepted, read-passes, WriteAccepted, write-accepted, write-passes, add-accepted, add-passes, commit-accepted, collect-accepted}
+use Rattle.rules.proofs.Soundness.Accepted.{images-accepted, read-passes, WriteAccepted, write-accepted, write-passes, add-accepted, add-passes, commit-accepted, collect-accepted, find-accepted, find-passes}
 use Rattle.rules.proofs.Soundness.RecordChecks.{records-sound, records-pass}
 use Rattle.rules.proofs.Soundness.ChipChecks.{chip-sound, chip-pass}
 use Rattle.rules.proofs.Data.Carries.{Carries, Wrote}
@@ -133,6 +133,9 @@ module _ (l : Layout) where
     -- an addition is read back as the write of the page that it falls in
     pub adding-back : (s : Images) (lost : ℕ) (ticket : List ℕ) (a t : ℕ) → logEnd l (contents l s lost) ≡ At t
         → ReadsBack s (fallsIn l t) (withTicket l (contents l s lost) ticket t) (verdict (addCall l s lost ticket a .answer)) (addCall l s lost ticket a .images)
+    -- in images that are sound but for the lost chip, a question is refused exactly where a ticket of the log breaks the rules
+    pub questions : limits l ≡ true → (s : Images) (lost : ℕ) → lostNamed l lost ≡ true → SoundBut l (isLost lost) s
+        → (checked (findRows l s lost) ≡ Passed) ↔ (logSound l (contents l s lost) ≡ true)
     pub cut-rule : CutRules l
     pub demand-3 : Demand3 l
     pub tickets : TicketsKept l
@@ -269,6 +272,10 @@ module _ (l : Layout) (some : 1 ≤ l .D) (narrow : l .D ≤ 4) where
     room = λ fit. room-in (within l fit);
     reading-back = reads-back;
     adding-back = adds-back;
+    questions = λ fit s lost named sound. (
+      λ passed. find-accepted l s lost passed .1,
+      find-passes l s lost (record { within = within l fit; named = named; sound = sound }),
+    );
     cut-rule = cut-rules l;
     demand-3 = demand-3 l some narrow;
     tickets = tickets-kept l some narrow;

@@ -12,10 +12,10 @@ use Rattle.log.proofs.look_at.Statement.{statement}
 use Rattle.log.proofs.look_at.Tie as tie
 
 abbrev Inv-loop : tie.InvT-loop
-Inv-loop page lot bag places found₀ latest₀ i₀ found latest i = (i ≤ places) × Seen (ticketsIn page) lot bag i found latest
+Inv-loop page lot bag perPage found₀ latest₀ i₀ found latest i = (i ≤ perPage) × Seen (ticketsIn page) lot bag i found latest
 
 abbrev μ-loop : tie.MeasureT-loop
-μ-loop page lot bag places found₀ latest₀ i₀ found latest i = places - i
+μ-loop page lot bag perPage found₀ latest₀ i₀ found latest i = perPage - i
 
 loop-holds : tie.Need-loop-holds Inv-loop μ-loop
 loop-holds c =

@@ -9,10 +9,10 @@ use Rattle.log.proofs.plain_to.Statement.{statement}
 use Rattle.log.proofs.plain_to.Tie as tie
 
 abbrev Inv-loop : tie.InvT-loop
-Inv-loop page first lot places i₀ i = (first ≤ i) × (i ≤ places) × ((t : ℕ) → first ≤ t → t < i → Plain page lot t)
+Inv-loop page first lot perPage i₀ i = (first ≤ i) × (i ≤ perPage) × ((t : ℕ) → first ≤ t → t < i → Plain page lot t)
 
 abbrev μ-loop : tie.MeasureT-loop
-μ-loop page first lot places i₀ i = places - i
+μ-loop page first lot perPage i₀ i = perPage - i
 
 loop-holds : tie.Need-loop-holds Inv-loop μ-loop
 loop-holds c = (omega arith, c .before .pre, λ t low high. absurd (omega arith))

@@ -20,11 +20,11 @@ use Rattle.log.proofs.walk_log.Statement.{statement}
 use Rattle.log.proofs.walk_log.Tie as tie
 
 abbrev Inv-loop : tie.InvT-loop
-Inv-loop work₀ chips records slots g lost lot bag places pages latest₀ reads₀ at₀ work latest reads at =
+Inv-loop work₀ chips records slots g lost lot bag per pages latest₀ reads₀ at₀ work latest reads at =
     (length work ≡ g .w) × (at ≡ positionOf (layoutOf g) (at .page)) × Going (layoutOf g) (images chips records slots) lost lot bag latest reads (at .page)
 
 abbrev μ-loop : tie.MeasureT-loop
-μ-loop work₀ chips records slots g lost lot bag places pages latest₀ reads₀ at₀ work latest reads at = pages - at .page
+μ-loop work₀ chips records slots g lost lot bag per pages latest₀ reads₀ at₀ work latest reads at = pages - at .page
 
 -- what the function was called with
 abbrev layout : tie.Start Inv-loop μ-loop → Layout

@@ -21,7 +21,7 @@ use Rattle.layout.proofs.Limits.{Within}
 use Rattle.layout.proofs.Rotations.{stripe-fits, member-fits, page-chip-fits}
 use Rattle.rules.specs.Fetch.{Fetched}
 use Rattle.rules.specs.Tickets.{ticketBytes, ticketOf, isEmpty, ticketSound, isFor, weightOf}
-use Rattle.rules.specs.Log.{perPage, places, fallsIn, bytesAt, ticketAt, logEnd, logLength, logSound, logOpen, latest, standing, withTicket, contents}
+use Rattle.rules.specs.Log.{perPage, places, fallsIn, bytesAt, ticketAt, logEnd, logLength, logSound, latest, standing, withTicket, contents}
 use Rattle.rules.proofs.Soundness.Statements.{Sound, sound-member}
 use Rattle.rules.proofs.Data.Contents.{length-bytes, pages-whole}
 use Rattle.rules.proofs.Data.Rebuild.{fetch-unwritten, fetch-direct}
@@ -73,10 +73,6 @@ module _ (l : Layout) where
       end-same =
           first-cong (places l) (λ t. isEmpty (ticketAt l f t)) (λ t. isEmpty (ticketAt l g t))
           (λ t h. ap (λ xs. isEmpty (ticketOf xs)) (bytes-same t h))
-
-      pub open-same : logOpen l f ≡ logOpen l g
-      unfolding logOpen
-      open-same = rw end-same
 
       length-same : logLength l f ≡ logLength l g
       unfolding logLength

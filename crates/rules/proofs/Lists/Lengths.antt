@@ -30,6 +30,7 @@ use Rattle.rules.specs.Parity.{commitAt}
 use Rattle.rules.specs.Commit.{commitSteps}
 use Rattle.rules.specs.Partial.{dataPage, lowestFreeSlot, slotStores, slotSteps, writeAt}
 use Rattle.rules.specs.Write.{commitOwed, owedSteps, writeMember, writeSteps}
+use Rattle.rules.specs.Log.{fallsIn, logEnd, withTicket, contents, addSteps}
 use Rattle.rules.specs.Open.{due, moveStep, moveFrom, moveSteps, ending, finishOf, finishSteps}
 
 at-most-one : (b : Bool) (x : Step) → length (cond b (x ∷ []) []) ≤ 1
@@ -147,3 +148,10 @@ module _ (l : Layout) where
       let first = owed-length j s in
       let last = placed-length (memberChip l j m) 3 (writeAt l j m xs) t (write-at-length j m xs) in
       rw length-append (omega arith)
+
+  -- an addition makes no more stores than a write
+  pub add-length : (lost : ℕ) (ticket : List ℕ) (s : Images) → length (addSteps l lost ticket s) ≤ 4 * K + 13
+  unfolding addSteps
+  add-length lost ticket s =
+      found-length (logEnd l (contents l s lost)) (4 * K + 13) (λ t. writeSteps l (fallsIn l t) (withTicket l (contents l s lost) ticket t) s) []
+      (λ t. write-length (fallsIn l t) (withTicket l (contents l s lost) ticket t) s) (omega arith)
