@@ -263,6 +263,24 @@ struct vazhettu_find_report vazhettu_find(struct vazhettu_geometry g, const uint
                                           const uint8_t *records, size_t records_len, const uint8_t *slots, size_t slots_len,
                                           uint64_t lost, uint32_t lot, uint16_t bag);
 
+/*
+ * Three tickets, one that is cut, a chip lost, and questions; STORE is geometry and buffers, as they stand in every call, after
+ * a format, and tests/c/example.c is a whole program:
+ *
+ *     vazhettu_ticket(t, VAZHETTU_WEIGHT, 7, 1, 60140, 140);
+ *     vazhettu_add(STORE, VAZHETTU_NO_CHIP, t, 16, VAZHETTU_NO_LIMIT);    done: bag 1 of lot 7
+ *     vazhettu_ticket(t, VAZHETTU_WEIGHT, 7, 2, 59870, 140);
+ *     vazhettu_add(STORE, VAZHETTU_NO_CHIP, t, 16, VAZHETTU_NO_LIMIT);    done: bag 2
+ *     vazhettu_ticket(t, VAZHETTU_WITHDRAWAL, 7, 1, 0, 0);
+ *     vazhettu_add(STORE, VAZHETTU_NO_CHIP, t, 16, VAZHETTU_NO_LIMIT);    done: bag 1 is withdrawn
+ *     vazhettu_ticket(t, VAZHETTU_WITHDRAWAL, 7, 2, 0, 0);
+ *     vazhettu_add(STORE, VAZHETTU_NO_CHIP, t, 16, 2);                    cut: power goes behind two of its stores
+ *     memset(chips, 0xee, VAZHETTU_CHIP_LEN(w, k, b));                    chip 0 is dead
+ *     vazhettu_find(STORE, 0, 7, 1);                                      standing 0: withdrawn
+ *     vazhettu_find(STORE, 0, 7, 2);                                      standing 1, gross 59870, tare 140
+ *     vazhettu_find(STORE, 0, 7, 3);                                      standing 0: not in the log
+ */
+
 #ifdef __cplusplus
 }
 #endif

@@ -69,10 +69,11 @@ fn gather(work: &mut [u8], chips: &[u8], g: Geometry, j: usize, numbers: [usize;
         × (r ≡ gathered (layoutOf g) (pageAt (layoutOf g) (now (chips .entry))) j (sixOf (layoutOf g) numbers) .reads) × (r ≤ 6) ⌝ }
 {
     let n = g.n as usize;
+    let parity = parity_chip(g, j);
     let mut reads = 0;
     let mut m = 0;
     while m < n {
-        let read = xor_page(work, chips, g, member_chip(g, j, m), numbers[m]);
+        let read = xor_page(work, chips, g, chip_beside(parity, m), numbers[m]);
         reads += read;
         m += 1;
     }
