@@ -47,9 +47,10 @@ impl Floor {
         }
     }
 
-    /// As a call that walks the log begins: with the scan.
+    /// As a call that walks the log begins: with the scan, here of the records that the passes go by.
     pub fn begin_pass(&self, scan: Scan) {
-        black_box(self.copies[0].scan(scan));
+        let passes = self.passes.as_ref().expect("images with a log");
+        black_box(self.copies[0].scan(scan, passes.records()));
     }
 
     pub fn pass(&mut self, scan: Scan, pass: Pass) {
@@ -71,15 +72,15 @@ impl Copy {
     /// The scan; then by the counts that the call answers as many pages copied as it reads or as it
     /// programs, whichever is more, a block filled for each erase, and a record copied for each other store.
     fn run(&mut self, scan: Scan, counts: Status) {
-        black_box(self.scan(scan));
+        black_box(self.scan(scan, &self.images.records));
         self.copy_pages(counts.reads.max(counts.programs) as usize);
         self.fill_blocks(counts.erases as usize);
         self.copy_records((counts.stores - counts.programs - counts.erases) as usize);
         black_box(&mut self.images);
     }
 
-    fn scan(&self, scan: Scan) -> u64 {
-        let (chips, records) = (black_box(&self.images.chips), black_box(&self.images.records));
+    fn scan(&self, scan: Scan, records: &[u8]) -> u64 {
+        let (chips, records) = (black_box(&self.images.chips), black_box(records));
         let chip_len = self.shape.chip_len();
         match scan {
             Scan::Nothing => 0,

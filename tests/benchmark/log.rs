@@ -1,5 +1,6 @@
 //! A log of tickets that fills half of a store, and the plain ways to go over its pages.
 
+use crate::placed;
 use crate::random::Random;
 use crate::reference::*;
 use std::hint::black_box;
@@ -62,15 +63,45 @@ impl Log {
         let current = view.record(stripe).current[member];
         view.data(self.shape.member_chip(stripe, member), current as usize)
     }
+
+    /// Finds each page that a walk reads through the record of its stripe, and tells where it lies; of a page
+    /// on the lost chip, those that it is rebuilt from. A slot is none.
+    fn find(self, records: &[u8], lost: Option<usize>, mut read: impl FnMut(usize)) {
+        let shape = self.shape;
+        for (stripe, record) in records.chunks_exact(RECORD_BYTES).take(self.end + 1).enumerate() {
+            let parity_chip = shape.parity_chip(stripe);
+            let chip = |m: usize| if m < parity_chip { m } else { m + 1 };
+            let current = |m: usize| shape.page_at(chip(m), number(record, 2 * m));
+            let old = |m: usize| shape.page_at(chip(m), number(record, 12 + 2 * m));
+            let bit = |m: usize| record[26] >> m & 1 == 1;
+            for member in 0..if stripe < self.end { shape.n } else { 1 } {
+                let others = (0..shape.n).filter(|&m| m != member);
+                if lost != Some(chip(member)) {
+                    read(current(member));
+                } else if bit(member) {
+                    others.filter(|&m| bit(m)).for_each(|m| read(current(m)));
+                } else {
+                    read(shape.page_at(parity_chip, number(record, 24)));
+                    others.for_each(|m| read(if bit(m) { old(m) } else { current(m) }));
+                }
+            }
+        }
+    }
 }
 
-/// A plain way to go over the pages that a walk reads, in its order, each from where it lies.
+/// A page number in a record.
+fn number(record: &[u8], at: usize) -> usize {
+    u16::from_le_bytes([record[at], record[at + 1]]) as usize
+}
+
+/// A plain way to go over the pages that a walk reads, in its order. Where each lies is known beforehand, but
+/// for the reads.
 #[derive(Clone, Copy, PartialEq, Eq)]
 pub enum Pass {
     /// Each is copied to a place of its own, end to end.
     Copy,
-    /// Each is copied to the same page.
-    OnePage,
+    /// Each is read by itself: found through the record of its stripe, and copied to the same page.
+    Reads,
     /// To the same page the first of those is copied that a page is gathered from, and the others are XORed.
     Gathered,
 }
@@ -83,7 +114,11 @@ struct Read {
 
 /// What the passes go by, and where they copy to.
 pub struct Passes {
-    shape: Shape,
+    log: Log,
+    /// The chip that is lost, if one is.
+    lost: usize,
+    /// As built: the floor empties some of its own.
+    records: Vec<u8>,
     reads: Vec<Read>,
     lost_reads: Vec<Read>,
     copy: Vec<u8>,
@@ -97,11 +132,28 @@ impl Passes {
         let reads = |lost| (0..log.pages).flat_map(|page| reads(view, page, lost)).collect();
         let (reads, lost_reads): (Vec<Read>, Vec<Read>) = (reads(None), reads(Some(lost)));
         let copy = vec![1; reads.len().max(lost_reads.len()) * shape.w];
-        let mut passes = Passes { shape, reads, lost_reads, copy, page: vec![1; shape.w] };
+        let (records, page) = (placed::owned_bytes(&view.images.records), vec![1; shape.w]);
+        let mut passes = Passes { log, lost, records, reads, lost_reads, copy, page };
+        passes.check_reads(false);
+        passes.check_reads(true);
         passes.run(&view.images.chips, Pass::Copy, false);
         let mut pages = passes.copy.chunks_exact(shape.w).take(log.pages).enumerate();
         assert!(pages.all(|(page, copy)| copy == log.page(view, page)), "a copy of the log");
         passes
+    }
+
+    /// Read by itself, each page is found where it lies, and none besides.
+    fn check_reads(&self, lost: bool) {
+        let reads = if lost { &self.lost_reads } else { &self.reads };
+        let mut found = Vec::with_capacity(self.count(lost));
+        self.log.find(&self.records, lost.then_some(self.lost), |at| found.push(at));
+        assert_eq!(found.len(), self.count(lost), "as many pages found as read");
+        assert!(found.iter().zip(reads).all(|(&at, read)| at == read.at as usize), "found where they lie");
+    }
+
+    /// What the walk finds its pages by.
+    pub fn records(&self) -> &[u8] {
+        &self.records
     }
 
     /// How many pages are read, with the chip lost or with none.
@@ -110,17 +162,21 @@ impl Passes {
     }
 
     pub fn run(&mut self, chips: &[u8], pass: Pass, lost: bool) {
-        let Passes { shape: Shape { w, .. }, reads, lost_reads, copy, page } = self;
+        let Passes { log, lost: chip, records, reads, lost_reads, copy, page } = self;
         let reads = if lost { lost_reads } else { reads }.iter();
-        let data = |read: &Read| &chips[read.at as usize..][..*w];
+        let w = log.shape.w;
+        let data = |at: usize| &chips[at..][..w];
         match pass {
             Pass::Copy => {
-                let places = copy.chunks_exact_mut(*w);
-                reads.zip(places).for_each(|(read, place)| place.copy_from_slice(data(read)));
+                let places = copy.chunks_exact_mut(w);
+                reads.zip(places).for_each(|(read, place)| place.copy_from_slice(data(read.at as usize)));
                 black_box(copy);
             }
-            Pass::OnePage => reads.for_each(|read| to_page(page, data(read), false)),
-            Pass::Gathered => reads.for_each(|read| to_page(page, data(read), read.added)),
+            Pass::Reads => {
+                let lost = lost.then_some(*chip);
+                log.find(black_box(records), lost, |at| to_page(page, data(at), false));
+            }
+            Pass::Gathered => reads.for_each(|read| to_page(page, data(read.at as usize), read.added)),
         }
     }
 }

@@ -11,8 +11,12 @@ const BEGIN: usize = 16;
 
 pub fn owned(images: &Images) -> Images {
     let [chips, records, slots] =
-        [&images.chips, &images.records, &images.slots].map(|bytes| placed(|| bytes.clone(), |copy| copy));
+        [&images.chips, &images.records, &images.slots].map(|bytes| owned_bytes(bytes));
     Images { chips, records, slots }
+}
+
+pub fn owned_bytes(bytes: &[u8]) -> Vec<u8> {
+    placed(|| bytes.to_vec(), |copy| copy)
 }
 
 pub fn lent_images(images: &Images) -> LentImages {

@@ -157,7 +157,7 @@ fn others(table: &Table) -> Vec<Other> {
     if table.walks {
         others.extend::<[Other; 3]>([
             ("copy", |at| at.passes[Pass::Copy as usize]),
-            ("one page", |at| at.passes[Pass::OnePage as usize]),
+            ("reads", |at| at.passes[Pass::Reads as usize]),
             ("gathered", |at| at.passes[Pass::Gathered as usize]),
         ]);
     } else if table.plan.kind != Kind::Refused {

@@ -151,9 +151,9 @@ pub fn tickets(view: View) -> Vec<Row> {
     let lost = LOST as u64;
     vec![
         plain(open, Call::Open { lost: NO_CHIP }),
-        find("find", NO_CHIP, open, &[Pass::Copy, Pass::OnePage]),
+        find("find", NO_CHIP, open, &[Pass::Copy, Pass::Reads]),
         plain(open_lost, Call::Open { lost }),
-        find("find with a chip lost", lost, open_lost, &[Pass::Copy, Pass::OnePage, Pass::Gathered]),
+        find("find with a chip lost", lost, open_lost, &[Pass::Copy, Pass::Reads, Pass::Gathered]),
         Row { answer: CUT, ..plain(write_cut, Call::WriteCut { page }) },
         Row { answer: CUT, ..walk("add with no allowance", Call::AddCut, write_cut) },
         plain(write, Call::Write { page }),

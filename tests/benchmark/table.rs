@@ -90,11 +90,12 @@ const TO_COPY: Ratio = Ratio {
     value: |_, measured, _| Some(measured.library / measured.passes[Pass::Copy as usize]?),
 };
 
-const TO_ONE_PAGE: Ratio = Ratio {
-    head: "/one page",
-    of: "copy to one page",
-    aim: |_, _| None,
-    value: |_, measured, _| Some(measured.library / measured.passes[Pass::OnePage as usize]?),
+/// Over the same pages read one by one, each found through the record of its stripe.
+const TO_READS: Ratio = Ratio {
+    head: "/reads",
+    of: "reads",
+    aim: |_, row| row.scan.is_lost().then_some(2.0),
+    value: |_, measured, _| Some(measured.library / measured.passes[Pass::Reads as usize]?),
 };
 
 const TO_GATHERED: Ratio = Ratio {
@@ -178,7 +179,7 @@ impl Table {
     pub fn ratios(&self) -> Vec<Ratio> {
         let mut ratios = match self.plan.kind {
             Kind::Refused => vec![TO_REFERENCE, TO_THIRD],
-            _ if self.walks => vec![TO_REFERENCE, TO_THIRD, TO_COPY, TO_ONE_PAGE, TO_GATHERED],
+            _ if self.walks => vec![TO_REFERENCE, TO_THIRD, TO_COPY, TO_READS, TO_GATHERED],
             _ => vec![TO_REFERENCE, TO_THIRD, TO_FLOOR],
         };
         if self.measured().any(|measured| measured.row.beside.is_some()) {

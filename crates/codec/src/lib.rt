@@ -249,6 +249,14 @@ pub fn record_ends(records: &[u8], g: Geometry, j: usize) -> bool
     zeros(&records[a..e])
 }
 
+// The bitmap of stripe j.
+pub fn bitmap_at(records: &[u8], g: Geometry, j: usize) -> usize
+    requires { ⌜ RecordsFit g (now records) × (j < g .s) ⌝ }
+    ensures { λ r. ⌜ (r ≡ recordAt (layoutOf g) (now (records .entry)) j .bitmap) × (r < 256) ⌝ }
+{
+    byte(records, j * RECORD_BYTES + BITMAP_AT)
+}
+
 // The slot of stripe j.
 pub fn slot_at(records: &[u8], g: Geometry, j: usize) -> usize
     requires { ⌜ RecordsFit g (now records) × (j < g .s) ⌝ }

@@ -5,7 +5,7 @@ use codec::Spare;
 use codec::spare_at;
 use device::program;
 use device::store_collection;
-use fetch::fetch_page;
+use fetch::fetch;
 use fetch::role_of;
 use layout::Geometry;
 use layout::NO_CHIP;
@@ -52,7 +52,7 @@ fn copy_page(
     let t = spare_at(chips, g, c, p);
     let j = t.stripe;
     let role = role_of(records, g, j, c, p);
-    let got = fetch_page(work, chips, records, slots, g, NO_CHIP, j, role);
+    let got = fetch(work, chips, records, slots, g, NO_CHIP, j, role, true);
     let spare = Spare {
         kind: t.kind,
         member: t.member,

@@ -1,35 +1,36 @@
--- A sound record from the code's struct; its numbers by their index; those of the other members; a sound record's are those of pages.
+-- What a sound record says of its stripe's pages: the others that a page is rebuilt from; its numbers by their index, and in a role.
 use Prim.Native.Nat.{ℕ, _+_, _-_, _≤_, _<_}
+use native.Mathlib.Nat.{zero-add}
 use native.Mathlib.Omega.{arith}
-use mathlib.Core.Path.{_≡_, refl, _∙_, fun-ext}
-use mathlib.Core.Bool.{Bool, true, false, not, cond, _&&_}
+use mathlib.Core.Path.{_≡_, refl, sym, ap, ap₂, _∙_}
+use mathlib.Core.Bool.{Bool, true, false, not, cond, _&&_, _||_}
 use mathlib.Core.List.{List}
 use lib.Dec.{eqb}
-use lib.ListN.{length, getD, set, replicate, getD-replicate}
-use lib.Seq.{getD-set-same, getD-set-other}
-use borrow.Author.Tests.{lt-ltb, le-ltb, eq-eqb, ne-eqb}
-use Rattle.ranges.proofs.Looks.{both, by-order, by-same}
-use Rattle.ranges.proofs.Tests.{cond-same}
+use borrow.Author.Tests.{lt-ltb, le-ltb, ne-eqb}
+use Rattle.ranges.proofs.Looks.{both}
 use Rattle.layout.specs.declared.Geometry.{Geometry}
-use Rattle.layout.specs.Layout.{Layout, layoutOf, none}
+use Rattle.layout.specs.Layout.{Layout, layoutOf, limits, none}
+use Rattle.bytes.specs.Xor.{_⊕_}
+use Rattle.layout.specs.Rotation.{parityChip}
+use Rattle.layout.specs.Page.{Page}
 use Rattle.layout.specs.Record.{Record, bit, recordAt}
-use Rattle.layout.proofs.Limits.{Within}
-use Rattle.layout.proofs.Bits.{testBit}
+use Rattle.layout.proofs.Limits.{Within, within}
 use Rattle.layout.proofs.Records.{bits-of-none}
 use Rattle.rules.specs.declared.Role.{Role}
 use Rattle.rules.specs.declared.Role.the-variants.{Current, Old, Parity}
-use Rattle.rules.specs.Fetch.{numberIn, underParity, othersInside, othersUnderParity}
+use Rattle.rules.specs.declared.Origin.the-variants.{Full}
+use Rattle.rules.specs.Fetch.{Fetched, Feed, itself, gathered, numberIn, underParity, othersInside, othersUnderParity, throughPartial, throughParity, parityAnew, rebuilt}
 use Rattle.rules.specs.Sound.{recordSound}
 use Rattle.rules.proofs.Soundness.Statements.{Numbered, RecordSound, sound-member}
 use Rattle.rules.proofs.Soundness.RecordChecks.{record-sound}
-use Rattle.rules.proofs.Data.Parity.{numbered-under-parity, numbered-others-inside, numbered-others-under-parity}
+use Rattle.rules.proofs.Data.Contents.{numbered-none}
+use Rattle.rules.proofs.Data.Parity.{numbered-others-inside, numbered-others-under-parity}
 use Rattle.codec.specs.declared.StripeRecord.{StripeRecord}
 use Rattle.codec.specs.Scan.{numberOf}
-use Rattle.codec.specs.Views.{sixOf, recordFrom, ended, SmallRecord}
-use Rattle.fetch.specs.Into.{RoleFits}
-use Rattle.fetch.specs.Numbers.{NumbersFit}
-use Rattle.codec.proofs.Encodings.{six-in, ended-same}
-use Rattle.fetch.proofs.Pages.{six-beyond}
+use Rattle.codec.specs.Views.{recordFrom, ended, SmallRecord}
+use Rattle.codec.proofs.Encodings.{ended-same}
+use Rattle.fetch.specs.Into.{RoleFits, others, firstIn, leftOut, isInside, throughFull, Into}
+use Rattle.fetch.proofs.Pages.{page-none, gathered-same, into-two}
 
 -- a sound record ends in zeros, so that it is what was read of it
 pub record-is : (g : Geometry) (xs : List ℕ) (j : ℕ) {e : StripeRecord}
@@ -37,81 +38,110 @@ pub record-is : (g : Geometry) (xs : List ℕ) (j : ℕ) {e : StripeRecord}
     (recordFrom (layoutOf g) e ≡ ended r) × SmallRecord e → recordSound (layoutOf g) r ≡ true → recordFrom (layoutOf g) e ≡ r
 record-is g xs j (is, small) h = is ∙ ended-same (record-sound (layoutOf g) (recordAt (layoutOf g) xs j) h .rest)
 
--- ---- numbers from the struct
+-- ---- the others that a page is rebuilt from
 
--- the current page of a member, and the old one
-pub old-in : (g : Geometry) (e : StripeRecord) {r : Record} (m : ℕ) → recordFrom (layoutOf g) e ≡ r → m < 6 → r .old m ≡ getD (e .old) m 0
-unfolding recordFrom
-old-in g e m q h = rw (← q) (six-in (layoutOf g) (e .old) m h)
-
-pub current-in : (g : Geometry) (e : StripeRecord) {r : Record} (m : ℕ) → recordFrom (layoutOf g) e ≡ r → m < 6 → r .current m ≡ getD (e .current) m 0
-unfolding recordFrom
-current-in g e m q h = rw (← q) (six-in (layoutOf g) (e .current) m h)
-
-module _ (g : Geometry) (i : ℕ) where
-  -- six that are none
-  pub nones : sixOf (layoutOf g) (replicate 6 65535) i ≡ 65535
-  nones = by-order i 6 (λ low. rw (six-in (layoutOf g) (replicate 6 65535) i low) (getD-replicate 6 i 65535 0 low)) (six-beyond g (replicate 6 65535) i)
-
-  -- six without number m
-  without : (xs : List ℕ) (m : ℕ) → length xs ≡ 6 → m < 6 → sixOf (layoutOf g) (set xs m 65535) i ≡ cond (eqb i m) 65535 (sixOf (layoutOf g) xs i)
-  without xs m six h = by-order i 6
-      (λ low. rw (six-in (layoutOf g) (set xs m 65535) i low, six-in (layoutOf g) xs i low) (by-same i m
-      (λ same. rw (eq-eqb i m same, same) (getD-set-same xs m 65535 0 (omega arith)))
-      (λ other. rw (ne-eqb i m other) (getD-set-other xs m i 65535 0 (omega arith)))))
-      (λ high. rw (six-beyond g (set xs m 65535) i high, six-beyond g xs i high, cond-same))
-
--- the numbers xs that the bitmap chooses are those of the definition, where member m is left out
-module _ (g : Geometry) (e : StripeRecord) (m : ℕ) (six : length (e .current) ≡ 6) (h : m < 6) (xs : List ℕ) where
-  pub inside-chosen :
-      ((i : ℕ) → sixOf (layoutOf g) xs i ≡ cond (testBit (e .bitmap) i) (sixOf (layoutOf g) (set (e .current) m 65535) i) (sixOf (layoutOf g) (replicate 6 65535) i))
-      → sixOf (layoutOf g) xs ≡ othersInside (layoutOf g) m (recordFrom (layoutOf g) e)
-  unfolding othersInside recordFrom bit none
-  inside-chosen chosen = fun-ext λ i.
-      rw (chosen i, without g i (e .current) m six h, nones g i) (one-of (testBit (e .bitmap) i) (eqb i m) (sixOf (layoutOf g) (e .current) i))
+-- by the tests that the code makes: no member that goes in, an old page, or a current one
+module _ (l : Layout) (inside : Bool) (m : ℕ) (r : Record) (i : ℕ) {set : Bool} (told : set ≡ bit r i) where
+  pub other-none : eqb i m || (inside && not set) ≡ true → others l inside m r i ≡ none l
+  unfolding othersInside othersUnderParity underParity
+  other-none = rw told (one-of inside (eqb i m) (bit r i))
     where
-      one-of : (b s : Bool) (p : ℕ) → cond b (cond s 65535 p) 65535 ≡ cond (b && not s) p 65535
-      one-of true true p = refl
-      one-of true false p = refl
-      one-of false s p = refl
+      one-of : (b s t : Bool) → s || (b && not t) ≡ true → cond b (cond (t && not s) (r .current i) (none l)) (cond s (none l) (cond t (r .old i) (r .current i))) ≡ none l
+      one-of true true true e = refl
+      one-of true true false e = refl
+      one-of true false true e = both false e refl
+      one-of true false false e = refl
+      one-of false true t e = refl
+      one-of false false t e = both false e refl
 
--- the numbers under the parity
-pub under-chosen : (g : Geometry) (e : StripeRecord) (xs : List ℕ)
-    → ((i : ℕ) → sixOf (layoutOf g) xs i ≡ cond (testBit (e .bitmap) i) (sixOf (layoutOf g) (e .old) i) (sixOf (layoutOf g) (e .current) i))
-    → sixOf (layoutOf g) xs ≡ underParity (layoutOf g) (recordFrom (layoutOf g) e)
-unfolding underParity recordFrom bit
-under-chosen g e xs chosen = fun-ext λ i. rw (chosen i)
+  pub other-old : eqb i m || (inside && not set) ≡ false → set && not inside ≡ true → others l inside m r i ≡ r .old i
+  unfolding othersInside othersUnderParity underParity
+  other-old = rw told (one-of inside (eqb i m) (bit r i))
+    where
+      one-of : (b s t : Bool) → s || (b && not t) ≡ false → t && not b ≡ true → cond b (cond (t && not s) (r .current i) (none l)) (cond s (none l) (cond t (r .old i) (r .current i))) ≡ r .old i
+      one-of false false true e h = refl
+      one-of false false false e h = both false h refl
+      one-of false true t e h = both true refl e
+      one-of true s true e h = both false h refl
+      one-of true s false e h = both false h refl
 
--- and without member m
-pub under-without : (g : Geometry) (r : Record) (m : ℕ) → m < 6 → (xs : List ℕ) → length xs ≡ 6 → sixOf (layoutOf g) xs ≡ underParity (layoutOf g) r
-    → sixOf (layoutOf g) (set xs m 65535) ≡ othersUnderParity (layoutOf g) m r
-unfolding othersUnderParity none
-under-without g r m h xs six e = fun-ext λ i. rw (without g i xs m six h, e)
+  pub other-current : eqb i m || (inside && not set) ≡ false → set && not inside ≡ false → others l inside m r i ≡ r .current i
+  unfolding othersInside othersUnderParity underParity
+  other-current = rw told (one-of inside (eqb i m) (bit r i))
+    where
+      one-of : (b s t : Bool) → s || (b && not t) ≡ false → t && not b ≡ false → cond b (cond (t && not s) (r .current i) (none l)) (cond s (none l) (cond t (r .old i) (r .current i))) ≡ r .current i
+      one-of true false true e h = refl
+      one-of true false false e h = both true refl e
+      one-of true true t e h = both true refl e
+      one-of false false true e h = both true refl h
+      one-of false false false e h = refl
+      one-of false true t e h = both true refl e
 
--- ---- a sound record's numbers
+-- a sound record's are those of pages
+pub others-fit : (l : Layout) → Within l → (inside : Bool) (m : ℕ) (r : Record) → RecordSound l r → (i : ℕ) → i < l .N → Numbered l (others l inside m r i)
+others-fit l w true m r s i h = numbered-others-inside l w r s m i h
+others-fit l w false m r s i h = numbered-others-under-parity l w r s m i h
 
-module _ (g : Geometry) where
-  -- the layout, of two-byte numbers
-  abbrev l : Layout
-  l = layoutOf g
+-- without one that is left out they are all that the parity was stored over
+all-under : (l : Layout) → Within l → (r : Record) (i : ℕ) → i < l .N → others l false 6 r i ≡ underParity l r i
+unfolding othersUnderParity
+all-under l w r i h = rw (ne-eqb i 6 (omega (arith, w .members-high)))
 
-  -- a record with a bit has a slot
-  pub slot-low : (r : Record) → RecordSound l r → (m : ℕ) → bit r m ≡ true → r .slot ≤ g .m
-  slot-low r s m t = s .slot (λ z. both (bit r m) t (bits-of-none r z m))
+-- the first page is one of the parity chip
+pub first-fits : (l : Layout) (r : Record) → RecordSound l r → (role : Role) → Numbered l (firstIn l r role)
+first-fits l r s (Current m) = s .parity
+first-fits l r s (Old m) = s .parity
+first-fits l r s Parity = numbered-none l
 
-  module _ (w : Within l) (r : Record) (s : RecordSound l r) (m : ℕ) where
-    -- six numbers of the others inside may be gathered
-    pub inside-fit : (xs : List ℕ) → sixOf l xs ≡ othersInside l m r → NumbersFit g xs
-    inside-fit xs e = record { fits = λ i h. rw e (numbered-others-inside l w r s m i h) }
+-- a page through the parity: the first page, and then the others
+module _ (l : Layout) (w : Within l) (y : ℕ → ℕ → Page) (z : ℕ → List ℕ) (j : ℕ) (r : Record) where
+  abbrev first : Role → Fetched
+  first role = itself l y (parityChip l j) (firstIn l r role)
 
-    -- so it is with those under the parity
-    pub others-under-fit : (xs : List ℕ) → sixOf l xs ≡ othersUnderParity l m r → NumbersFit g xs
-    others-under-fit xs e = record { fits = λ i h. rw e (numbered-others-under-parity l w r s m i h) }
+  abbrev rest : Role → Feed
+  rest role = gathered l y j (others l false (leftOut role) r)
 
-  pub under-fit : Within l → (r : Record) → RecordSound l r → (xs : List ℕ) → sixOf l xs ≡ underParity l r → NumbersFit g xs
-  under-fit w r s xs e = record { fits = λ i h. rw e (numbered-under-parity l w r s i h) }
+  pub full-fetched : (role : Role) {before after : List ℕ} {n : ℕ} → after ≡ before ⊕ first role .bytes ⊕ rest role .bytes → n ≡ first role .reads + rest role .reads → n ≤ 7
+      → Into (throughFull l y z j r role) before after (record { reads = n; origin = Full })
+  unfolding throughParity parityAnew
+  full-fetched (Current m) e reads few = into-two (first (Current m) .bytes) (rest (Current m) .bytes) refl e reads refl few
+  full-fetched (Old m) e reads few = into-two (first (Old m) .bytes) (rest (Old m) .bytes) refl e reads refl few
+  full-fetched Parity {before} e reads few =
+      let all = gathered-same l y j (others l false 6 r) (underParity l r) (all-under l w r) in
+      let nothing = page-none l y (parityChip l j) (none l) before refl in
+      record {
+        bytes = e ∙ ap₂ _⊕_ (sym (nothing .0)) (ap (λ (x : Feed). x .bytes) all);
+        reads = reads ∙ ap₂ _+_ (sym (nothing .1)) (ap (λ (x : Feed). x .reads) all) ∙ zero-add _;
+        origin = refl;
+        few = few;
+      }
+
+-- through the one or the other
+pub inside-bit : (r : Record) (role : Role) → isInside r role ≡ true → bit r (leftOut role) ≡ true
+inside-bit r (Current m) e = e
+inside-bit r (Old m) e = both false e refl
+inside-bit r Parity e = both false e refl
+
+module _ (l : Layout) (y : ℕ → ℕ → Page) (z : ℕ → List ℕ) (j : ℕ) (r : Record) where
+  pub rebuilt-inside : (role : Role) → isInside r role ≡ true → throughPartial l y z j r (leftOut role) ≡ rebuilt l y z j r role
+  rebuilt-inside (Current m) e = rw e
+  rebuilt-inside (Old m) e = both false e refl
+  rebuilt-inside Parity e = both false e refl
+
+  pub rebuilt-full : (role : Role) → isInside r role ≡ false → throughFull l y z j r role ≡ rebuilt l y z j r role
+  rebuilt-full (Current m) e = rw e
+  rebuilt-full (Old m) e = refl
+  rebuilt-full Parity e = refl
+
+-- a record with a bit has a slot
+pub slot-low : (l : Layout) (r : Record) → RecordSound l r → (m : ℕ) → bit r m ≡ true → r .slot ≤ l .M
+slot-low l r s m t = s .slot (λ z. both (bit r m) t (bits-of-none r z m))
 
 -- ---- roles
+
+-- a member is one of six
+pub six : (g : Geometry) → limits (layoutOf g) ≡ true → {m : ℕ} → m < g .n → m < 6
+six g limited h = omega (arith, h, within (layoutOf g) limited .members-high)
 
 -- the member of a role that is known
 pub current-fits : (g : Geometry) {role : Role} {m : ℕ} → role ≡ Current m → RoleFits g role → m < g .n

@@ -4,17 +4,17 @@ use bytes::copy;
 use bytes::fill;
 use bytes::xor_into;
 use codec::NONE;
-use codec::StripeRecord;
 use codec::bit_of;
+use codec::bitmap_at;
 use codec::chip_beside;
 use codec::member_chip;
 use codec::member_on;
 use codec::page_data;
 use codec::parity_chip;
-use codec::record_at;
 use codec::scan::LAST;
 use codec::scan::OLD;
 use codec::scan::number_in;
+use codec::slot_at;
 use codec::slot_data;
 use layout::Geometry;
 use rules::Origin;
@@ -23,9 +23,8 @@ ghost use mathlib.Core.Path.{_≡_};
 ghost use mathlib.Core.Logic.{_≢_};
 ghost use mathlib.Core.Bool.{true, cond};
 ghost use mathlib.Core.List.{List};
-ghost use Prim.Native.Nat.{ℕ, _/_, _%_, _^_, _≤_, _<_};
-ghost use lib.Dec.{eqb};
-ghost use lib.ListN.{length, replicate};
+ghost use Prim.Native.Nat.{ℕ, _≤_, _<_};
+ghost use lib.ListN.{length};
 ghost use Rattle.bytes.specs.Xor.{_⊕_};
 ghost use Rattle.layout.specs.Layout.{layoutOf, limits, none, pages};
 ghost use Rattle.layout.specs.Rotation.{parityChip, memberChip};
@@ -35,12 +34,13 @@ ghost use Rattle.layout.specs.Images.{slotAt};
 ghost use Rattle.steps.specs.Allowance.{images};
 ghost use Rattle.rules.specs.Names.{roleOf};
 ghost use Rattle.rules.specs.Sound.{recordSound};
-ghost use Rattle.rules.specs.Fetch.{itself, gathered, chipIn, numberIn, underParity, othersUnderParity, othersInside, throughPartial, throughParity, rebuilt, fetchRole, fetchIn};
+ghost use Rattle.rules.specs.Fetch.{itself, gathered, chipIn, numberIn, throughPartial, rebuilt, fetchIn};
 ghost use Rattle.rules.specs.Read.{fetchMember};
 ghost use Rattle.codec.specs.Fit.{ChipsFit, RecordsFit, SlotsFit};
-ghost use Rattle.codec.specs.Views.{sixOf, recordFrom};
-ghost use Rattle.fetch.specs.Numbers.{NumbersFit};
-ghost use Rattle.fetch.specs.Into.{RoleFits, Into, isDirect};
+ghost use Rattle.fetch.specs.Into.{RoleFits, begun, others, firstIn, leftOut, isInside, throughFull, Into, isDirect};
+
+// No member.
+const NO_MEMBER: usize = 6;
 
 // What a fetch tells, besides the bytes.
 pub struct Got {
@@ -49,121 +49,176 @@ pub struct Got {
     pub origin: Origin,
 }
 
+// XORs src into work; where work is fresh, into zeros, so that it becomes src.
+fn add(work: &mut [u8], src: &[u8], fresh: bool)
+    requires { ⌜ length (now src) ≡ length (now work) ⌝ }
+    ensures { λ _. ⌜ now (work .exit) ≡ begun fresh (now (work .entry)) ⊕ now (src .entry) ⌝ }
+{
+    if fresh {
+        copy(work, src);
+    } else {
+        xor_into(work, src);
+    }
+}
+
+// XORs in no page: work that is fresh becomes zeros.
+fn add_none(work: &mut [u8], fresh: bool)
+    ensures { λ _. ⌜ now (work .exit) ≡ begun fresh (now (work .entry)) ⌝ }
+{
+    if fresh {
+        fill(work, 0);
+    }
+}
+
 // XORs into work page p of chip c as it stands, and answers how many pages were read: of no page, none.
-fn xor_page(work: &mut [u8], chips: &[u8], g: Geometry, c: usize, p: usize) -> u64
+fn add_page(work: &mut [u8], chips: &[u8], g: Geometry, c: usize, p: usize, fresh: bool) -> u64
     requires { ⌜ ChipsFit g (now chips) × (length (now work) ≡ g .w) × (c ≤ g .n) × (p ≢ none (layoutOf g) → p < pages (layoutOf g)) ⌝ }
-    ensures { λ r. ⌜ (now (work .exit) ≡ now (work .entry) ⊕ itself (layoutOf g) (pageAt (layoutOf g) (now (chips .entry))) c p .bytes)
+    ensures { λ r. ⌜ (now (work .exit) ≡ begun fresh (now (work .entry)) ⊕ itself (layoutOf g) (pageAt (layoutOf g) (now (chips .entry))) c p .bytes)
         × (r ≡ itself (layoutOf g) (pageAt (layoutOf g) (now (chips .entry))) c p .reads) × (r ≤ 1) ⌝ }
 {
     if p != NONE {
-        xor_into(work, page_data(chips, g, c, p));
+        add(work, page_data(chips, g, c, p), fresh);
         return 1;
     }
+    add_none(work, fresh);
     0
 }
 
-// XORs into work the page of each member of stripe j, and answers how many were read.
-fn gather(work: &mut [u8], chips: &[u8], g: Geometry, j: usize, numbers: [usize; 6]) -> u64
-    requires { ⌜ ChipsFit g (now chips) × (length (now work) ≡ g .w) × NumbersFit g numbers ⌝ }
-    ensures { λ r. ⌜ (now (work .exit) ≡ now (work .entry) ⊕ gathered (layoutOf g) (pageAt (layoutOf g) (now (chips .entry))) j (sixOf (layoutOf g) numbers) .bytes)
-        × (r ≡ gathered (layoutOf g) (pageAt (layoutOf g) (now (chips .entry))) j (sixOf (layoutOf g) numbers) .reads) × (r ≤ 6) ⌝ }
+// The page of member i that goes into a rebuilt one: of the others than m those inside the bitmap, or those that the parity was stored over.
+fn other_number(
+    records: &[u8],
+    g: Geometry,
+    j: usize,
+    bitmap: usize,
+    inside: bool,
+    m: usize,
+    i: usize,
+) -> usize
+    requires { ⌜ RecordsFit g (now records) × (j < g .s) × (i < 6) × (bitmap ≡ recordAt (layoutOf g) (now records) j .bitmap) ⌝ }
+    ensures { λ r. ⌜ r ≡ others (layoutOf g) inside m (recordAt (layoutOf g) (now (records .entry)) j) i ⌝ }
+{
+    let set = bit_of(bitmap, i);
+    if (i == m) | (inside & !set) {
+        return NONE;
+    }
+    if set & !inside {
+        return number_in(records, g, j, OLD + i);
+    }
+    number_in(records, g, j, i)
+}
+
+// XORs into work each of these pages of stripe j, and answers how many were read. The numbers are read where they lie.
+fn gather(
+    work: &mut [u8],
+    chips: &[u8],
+    records: &[u8],
+    g: Geometry,
+    j: usize,
+    parity: usize,
+    inside: bool,
+    m: usize,
+) -> u64
+    requires { ⌜ ChipsFit g (now chips) × RecordsFit g (now records) × (length (now work) ≡ g .w) × (j < g .s) × (parity ≡ parityChip (layoutOf g) j)
+        × (recordSound (layoutOf g) (recordAt (layoutOf g) (now records) j) ≡ true) ⌝ }
+    ensures { λ r. ⌜ (now (work .exit) ≡ now (work .entry)
+        ⊕ gathered (layoutOf g) (pageAt (layoutOf g) (now (chips .entry))) j (others (layoutOf g) inside m (recordAt (layoutOf g) (now (records .entry)) j)) .bytes)
+        × (r ≡ gathered (layoutOf g) (pageAt (layoutOf g) (now (chips .entry))) j (others (layoutOf g) inside m (recordAt (layoutOf g) (now (records .entry)) j)) .reads)
+        × (r ≤ 6) ⌝ }
 {
     let n = g.n as usize;
-    let parity = parity_chip(g, j);
+    let bitmap = bitmap_at(records, g, j);
     let mut reads = 0;
-    let mut m = 0;
-    while m < n {
-        let read = xor_page(work, chips, g, chip_beside(parity, m), numbers[m]);
-        reads += read;
-        m += 1;
-    }
-    reads
-}
-
-// The numbers of the members in the bitmap, from inside, and those of the others, from outside.
-fn chosen(bitmap: usize, inside: [usize; 6], outside: [usize; 6]) -> [usize; 6]
-    ensures { λ r. ⌜ ((g : Geometry) (i : ℕ) → sixOf (layoutOf g) r i
-        ≡ cond (eqb (bitmap / 2 ^ i % 2) 1) (sixOf (layoutOf g) inside i) (sixOf (layoutOf g) outside i)) ⌝ }
-{
-    let mut numbers = outside;
     let mut i = 0;
-    while i < 6 {
-        if bit_of(bitmap, i) {
-            numbers[i] = inside[i];
-        }
+    while i < n {
+        let p = other_number(records, g, j, bitmap, inside, m, i);
+        let read = add_page(work, chips, g, chip_beside(parity, i), p, false);
+        reads += read;
         i += 1;
     }
-    numbers
-}
-
-// The current pages of the members in the bitmap, but for member m.
-fn others_inside(e: StripeRecord, m: usize) -> [usize; 6]
-    requires { ⌜ m < 6 ⌝ }
-    ensures { λ r. ⌜ ((g : Geometry) → sixOf (layoutOf g) r ≡ othersInside (layoutOf g) m (recordFrom (layoutOf g) e)) ⌝ }
-{
-    let mut current = e.current;
-    current[m] = NONE;
-    chosen(e.bitmap, current, [NONE; 6])
-}
-
-// The pages that the parity was stored over: the old ones of the bitmap, and the current ones of the others.
-fn under_parity(e: StripeRecord) -> [usize; 6]
-    ensures { λ r. ⌜ ((g : Geometry) → sixOf (layoutOf g) r ≡ underParity (layoutOf g) (recordFrom (layoutOf g) e)) ⌝ }
-{
-    let old = e.old;
-    let current = e.current;
-    chosen(e.bitmap, old, current)
-}
-
-// The same but for member m.
-fn others_under_parity(e: StripeRecord, m: usize) -> [usize; 6]
-    requires { ⌜ m < 6 ⌝ }
-    ensures { λ r. ⌜ ((g : Geometry) → sixOf (layoutOf g) r ≡ othersUnderParity (layoutOf g) m (recordFrom (layoutOf g) e)) ⌝ }
-{
-    let mut numbers = under_parity(e);
-    numbers[m] = NONE;
-    numbers
+    reads
 }
 
 // XORs into work member m of stripe j as the partial parity has it.
 fn through_partial(
     work: &mut [u8],
     chips: &[u8],
+    records: &[u8],
     slots: &[u8],
     g: Geometry,
     j: usize,
-    e: StripeRecord,
+    parity: usize,
     m: usize,
+    fresh: bool,
 ) -> Got
-    requires { ⌜ ChipsFit g (now chips) × SlotsFit g (now slots) × (length (now work) ≡ g .w) × (m < g .n)
-        × (recordSound (layoutOf g) (recordFrom (layoutOf g) e) ≡ true) × (bit (recordFrom (layoutOf g) e) m ≡ true) ⌝ }
-    ensures { λ r. ⌜ Into (throughPartial (layoutOf g) (pageAt (layoutOf g) (now (chips .entry))) (slotAt (layoutOf g) (now (slots .entry))) j (recordFrom (layoutOf g) e) m)
-        (now (work .entry)) (now (work .exit)) r ⌝ }
+    requires { ⌜ ChipsFit g (now chips) × RecordsFit g (now records) × SlotsFit g (now slots) × (length (now work) ≡ g .w) × (j < g .s) × (parity ≡ parityChip (layoutOf g) j)
+        × (recordSound (layoutOf g) (recordAt (layoutOf g) (now records) j) ≡ true) × (bit (recordAt (layoutOf g) (now records) j) m ≡ true) ⌝ }
+    ensures { λ r. ⌜ Into (throughPartial (layoutOf g) (pageAt (layoutOf g) (now (chips .entry))) (slotAt (layoutOf g) (now (slots .entry))) j (recordAt (layoutOf g) (now (records .entry)) j) m)
+        (begun fresh (now (work .entry))) (now (work .exit)) r ⌝ }
 {
-    xor_into(work, slot_data(slots, g, e.slot));
+    add(work, slot_data(slots, g, slot_at(records, g, j)), fresh);
     Got {
-        reads: gather(work, chips, g, j, others_inside(e, m)),
+        reads: gather(work, chips, records, g, j, parity, true, m),
         origin: Origin::Partial,
     }
 }
 
-// The page of member m that the parity was stored over, through the parity page.
+// The page that goes in first: the parity page, but where it is the one that is rebuilt.
+fn first_number(records: &[u8], g: Geometry, j: usize, role: Role) -> usize
+    requires { ⌜ RecordsFit g (now records) × (j < g .s) ⌝ }
+    ensures { λ r. ⌜ r ≡ firstIn (layoutOf g) (recordAt (layoutOf g) (now (records .entry)) j) role ⌝ }
+{
+    match role {
+        Role::Current(_) => number_in(records, g, j, LAST),
+        Role::Old(_) => number_in(records, g, j, LAST),
+        Role::Parity => NONE,
+    }
+}
+
+// The member that is left out of the others.
+fn left_out(role: Role) -> usize
+    ensures { λ r. ⌜ r ≡ leftOut role ⌝ }
+{
+    match role {
+        Role::Current(m) => m,
+        Role::Old(m) => m,
+        Role::Parity => NO_MEMBER,
+    }
+}
+
+// XORs into work the page in this role as the parity has it: the parity page and the others that it was stored over.
 fn through_parity(
     work: &mut [u8],
     chips: &[u8],
+    records: &[u8],
     g: Geometry,
     j: usize,
-    e: StripeRecord,
-    m: usize,
+    parity: usize,
+    role: Role,
+    fresh: bool,
 ) -> Got
-    requires { ⌜ ChipsFit g (now chips) × (length (now work) ≡ g .w) × (m < g .n) × (recordSound (layoutOf g) (recordFrom (layoutOf g) e) ≡ true) ⌝ }
-    ensures { λ r. ⌜ ((z : ℕ → List ℕ) → Into (throughParity (layoutOf g) (pageAt (layoutOf g) (now (chips .entry))) z j (recordFrom (layoutOf g) e) m)
-        (now (work .entry)) (now (work .exit)) r) ⌝ }
+    requires { ⌜ ChipsFit g (now chips) × RecordsFit g (now records) × (length (now work) ≡ g .w) × (j < g .s) × (parity ≡ parityChip (layoutOf g) j) × (parity ≤ g .n)
+        × (recordSound (layoutOf g) (recordAt (layoutOf g) (now records) j) ≡ true) ⌝ }
+    ensures { λ r. ⌜ ((z : ℕ → List ℕ) → Into (throughFull (layoutOf g) (pageAt (layoutOf g) (now (chips .entry))) z j (recordAt (layoutOf g) (now (records .entry)) j) role)
+        (begun fresh (now (work .entry))) (now (work .exit)) r) ⌝ }
 {
-    let first = xor_page(work, chips, g, parity_chip(g, j), e.parity);
+    let p = first_number(records, g, j, role);
+    let first = add_page(work, chips, g, parity, p, fresh);
+    let m = left_out(role);
     Got {
-        reads: first + gather(work, chips, g, j, others_under_parity(e, m)),
+        reads: first + gather(work, chips, records, g, j, parity, false, m),
         origin: Origin::Full,
+    }
+}
+
+// Whether it is a current page in the partial parity.
+fn is_inside(records: &[u8], g: Geometry, j: usize, role: Role) -> bool
+    requires { ⌜ RecordsFit g (now records) × (j < g .s) × RoleFits g role ⌝ }
+    ensures { λ r. ⌜ r ≡ isInside (recordAt (layoutOf g) (now (records .entry)) j) role ⌝ }
+{
+    match role {
+        Role::Current(m) => bit_of(bitmap_at(records, g, j), m),
+        Role::Old(_) => false,
+        Role::Parity => false,
     }
 }
 
@@ -171,57 +226,39 @@ fn through_parity(
 fn rebuild(
     work: &mut [u8],
     chips: &[u8],
+    records: &[u8],
     slots: &[u8],
     g: Geometry,
     j: usize,
-    e: StripeRecord,
+    parity: usize,
     role: Role,
+    fresh: bool,
 ) -> Got
-    requires { ⌜ ChipsFit g (now chips) × SlotsFit g (now slots) × (length (now work) ≡ g .w) × RoleFits g role
-        × (recordSound (layoutOf g) (recordFrom (layoutOf g) e) ≡ true) ⌝ }
-    ensures { λ r. ⌜ Into (rebuilt (layoutOf g) (pageAt (layoutOf g) (now (chips .entry))) (slotAt (layoutOf g) (now (slots .entry))) j (recordFrom (layoutOf g) e) role)
-        (now (work .entry)) (now (work .exit)) r ⌝ }
+    requires { ⌜ ChipsFit g (now chips) × RecordsFit g (now records) × SlotsFit g (now slots) × (length (now work) ≡ g .w) × (j < g .s)
+        × (parity ≡ parityChip (layoutOf g) j) × (parity ≤ g .n) × RoleFits g role × (recordSound (layoutOf g) (recordAt (layoutOf g) (now records) j) ≡ true) ⌝ }
+    ensures { λ r. ⌜ Into (rebuilt (layoutOf g) (pageAt (layoutOf g) (now (chips .entry))) (slotAt (layoutOf g) (now (slots .entry))) j (recordAt (layoutOf g) (now (records .entry)) j) role)
+        (begun fresh (now (work .entry))) (now (work .exit)) r ⌝ }
 {
-    match role {
-        Role::Current(m) => {
-            if bit_of(e.bitmap, m) {
-                return through_partial(work, chips, slots, g, j, e, m);
-            }
-            through_parity(work, chips, g, j, e, m)
-        }
-        Role::Old(m) => through_parity(work, chips, g, j, e, m),
-        Role::Parity => Got {
-            reads: gather(work, chips, g, j, under_parity(e)),
-            origin: Origin::Full,
-        },
+    if is_inside(records, g, j, role) {
+        let m = left_out(role);
+        return through_partial(work, chips, records, slots, g, j, parity, m, fresh);
     }
+    through_parity(work, chips, records, g, j, parity, role, fresh)
 }
 
-// The chip of the page of stripe j in this role.
-fn chip_of(g: Geometry, j: usize, role: Role) -> usize
-    requires { ⌜ (limits (layoutOf g) ≡ true) × RoleFits g role ⌝ }
-    ensures { λ r. ⌜ (r ≡ chipIn (layoutOf g) j role) × (r ≤ g .n) ⌝ }
+// The chip of a page in this role, of a stripe whose parity is on chip `parity`.
+fn chip_of(g: Geometry, parity: usize, role: Role) -> usize
+    requires { ⌜ (limits (layoutOf g) ≡ true) × (parity ≤ g .n) × RoleFits g role ⌝ }
+    ensures { λ r. ⌜ ((j : ℕ) → parity ≡ parityChip (layoutOf g) j → r ≡ chipIn (layoutOf g) j role) × (r ≤ g .n) ⌝ }
 {
     match role {
-        Role::Current(m) => member_chip(g, j, m),
-        Role::Old(m) => member_chip(g, j, m),
-        Role::Parity => parity_chip(g, j),
+        Role::Current(m) => chip_beside(parity, m),
+        Role::Old(m) => chip_beside(parity, m),
+        Role::Parity => parity,
     }
 }
 
 // Its number in the record.
-fn number_of(g: Geometry, e: StripeRecord, role: Role) -> usize
-    requires { ⌜ (limits (layoutOf g) ≡ true) × RoleFits g role ⌝ }
-    ensures { λ r. ⌜ r ≡ numberIn (layoutOf g) (recordFrom (layoutOf g) e) role ⌝ }
-{
-    match role {
-        Role::Current(m) => e.current[m],
-        Role::Old(m) => e.old[m],
-        Role::Parity => e.parity,
-    }
-}
-
-// The same from the records.
 fn number_named(records: &[u8], g: Geometry, j: usize, role: Role) -> usize
     requires { ⌜ RecordsFit g (now records) × (j < g .s) × RoleFits g role ⌝ }
     ensures { λ r. ⌜ r ≡ numberIn (layoutOf g) (recordAt (layoutOf g) (now (records .entry)) j) role ⌝ }
@@ -249,43 +286,10 @@ pub fn role_of(records: &[u8], g: Geometry, j: usize, c: usize, p: usize) -> Rol
     Role::Old(m)
 }
 
-// XORs into work the page of stripe j in this role, or what it is rebuilt from where its chip is lost; of no page, nothing.
+// XORs into work the page of stripe j in this role, or what it is rebuilt from where its chip is lost; of no page, nothing. Work that is fresh
+// becomes the page.
 pub fn fetch(
     work: &mut [u8],
-    chips: &[u8],
-    slots: &[u8],
-    g: Geometry,
-    lost: usize,
-    j: usize,
-    e: StripeRecord,
-    role: Role,
-) -> Got
-    requires { ⌜ ChipsFit g (now chips) × SlotsFit g (now slots) × (length (now work) ≡ g .w) × RoleFits g role
-        × (recordSound (layoutOf g) (recordFrom (layoutOf g) e) ≡ true) ⌝ }
-    ensures { λ r. ⌜ Into (fetchRole (layoutOf g) (pageAt (layoutOf g) (now (chips .entry))) (slotAt (layoutOf g) (now (slots .entry))) j (recordFrom (layoutOf g) e) lost role)
-        (now (work .entry)) (now (work .exit)) r ⌝ }
-{
-    let p = number_of(g, e, role);
-    if p == NONE {
-        return Got {
-            reads: 0,
-            origin: Origin::Unwritten,
-        };
-    }
-    let c = chip_of(g, j, role);
-    if c == lost {
-        return rebuild(work, chips, slots, g, j, e, role);
-    }
-    Got {
-        reads: xor_page(work, chips, g, c, p),
-        origin: Origin::Direct,
-    }
-}
-
-// The buffer becomes the page of stripe j in this role, zeros where there is none. One that is there is copied, and of its record only its
-// number is looked at: nearly all pages come so.
-pub fn fetch_page(
-    buffer: &mut [u8],
     chips: &[u8],
     records: &[u8],
     slots: &[u8],
@@ -293,34 +297,30 @@ pub fn fetch_page(
     lost: usize,
     j: usize,
     role: Role,
+    fresh: bool,
 ) -> Got
-    requires { ⌜ ChipsFit g (now chips) × RecordsFit g (now records) × SlotsFit g (now slots) × (length (now buffer) ≡ g .w) × (j < g .s) × RoleFits g role
+    requires { ⌜ ChipsFit g (now chips) × RecordsFit g (now records) × SlotsFit g (now slots) × (length (now work) ≡ g .w) × (j < g .s) × RoleFits g role
         × (recordSound (layoutOf g) (recordAt (layoutOf g) (now records) j) ≡ true) ⌝ }
     ensures { λ r. ⌜ Into (fetchIn (layoutOf g) (images (now (chips .entry)) (now (records .entry)) (now (slots .entry))) lost j role)
-        (replicate (g .w) 0) (now (buffer .exit)) r ⌝ }
+        (begun fresh (now (work .entry))) (now (work .exit)) r ⌝ }
 {
-    let number = number_named(records, g, j, role);
-    if number != NONE {
-        let c = chip_of(g, j, role);
-        if c != lost {
-            copy(buffer, page_data(chips, g, c, number));
-            return Got {
-                reads: 1,
-                origin: Origin::Direct,
-            };
-        }
+    let p = number_named(records, g, j, role);
+    if p == NONE {
+        add_none(work, fresh);
+        return Got {
+            reads: 0,
+            origin: Origin::Unwritten,
+        };
     }
-    fill(buffer, 0);
-    fetch(
-        buffer,
-        chips,
-        slots,
-        g,
-        lost,
-        j,
-        record_at(records, g, j),
-        role,
-    )
+    let parity = parity_chip(g, j);
+    let c = chip_of(g, parity, role);
+    if c == lost {
+        return rebuild(work, chips, records, slots, g, j, parity, role, fresh);
+    }
+    Got {
+        reads: add_page(work, chips, g, c, p, fresh),
+        origin: Origin::Direct,
+    }
 }
 
 // The buffer becomes member m of stripe j.
@@ -340,7 +340,8 @@ pub fn fetch_member(
         ≡ fetchMember (layoutOf g) (images (now (chips .entry)) (now (records .entry)) (now (slots .entry))) lost j m)
         × (r .reads ≤ 7) ⌝ }
 {
-    fetch_page(buffer, chips, records, slots, g, lost, j, Role::Current(m))
+    let role = Role::Current(m);
+    fetch(buffer, chips, records, slots, g, lost, j, role, true)
 }
 
 // Whether member m of stripe j can be read off its chip: it is written, and its chip is not lost.
@@ -381,7 +382,7 @@ pub fn lent<'a>(
     work
 }
 
-// The same for a read: on the lost chip it is gathered in a work page.
+// The buffer becomes member m of stripe j, for a read: on the lost chip it is gathered in a work page.
 pub fn read_member(
     buffer: &mut [u8],
     chips: &[u8],

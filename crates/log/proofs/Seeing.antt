@@ -1,27 +1,30 @@
 -- Tickets looked at one after the other: how many are sound, and what stands after them.
-use Prim.Native.Nat.{ℕ, zero, suc, _+_, _-_, _*_, _≤_, _<_}
+use Prim.Native.Nat.{ℕ, zero, suc, _+_, _-_, _*_, _%_, _≤_, _<_}
 use native.Mathlib.Nat.{add-zero, add-suc}
 use native.Mathlib.Numerals.{add-one}
 use native.Mathlib.Omega.{arith}
 use mathlib.Core.Path.{_≡_, refl, sym, ap, _∙_}
 use mathlib.Core.Logic.{_≢_}
-use mathlib.Core.Bool.{Bool, true, false, cond, _||_}
+use mathlib.Core.Bool.{Bool, true, false, not, cond, _&&_, _||_}
 use mathlib.Core.List.{List}
 use lib.ListN.{length, getD}
-use borrow.Author.Tests.{le-leb, ne-eqb}
+use lib.Dec.{eqb}
+use borrow.Author.Tests.{eqb-true, eq-eqb, ne-eqb, leb-true, le-leb, not-true}
 use Rattle.ranges.specs.declared.Found.{Found}
 use Rattle.ranges.specs.declared.Found.the-variants.{At, Nothing}
 use Rattle.ranges.specs.Look.{allBelow, lastBelow, whenFound}
-use Rattle.ranges.proofs.Looks.{by-test, by-order, all-true, all-at, last-at}
+use Rattle.ranges.proofs.Looks.{by-test, by-order, by-same, all-true, all-at, last-at}
+use Rattle.ranges.proofs.Tests.{and-both, and-left, unless-equal, under, differ}
+use Rattle.ranges.proofs.Tallies.{same-tests}
 use Rattle.bytes.specs.Number.{number}
 use Rattle.bytes.specs.Units.{part, unit}
-use Rattle.bytes.proofs.Lists.{number-two}
+use Rattle.bytes.proofs.Lists.{number-two, number-four}
 use Rattle.bytes.proofs.Units.{part-unit, getD-unit}
 use Rattle.rules.specs.declared.Ticket.{Ticket}
 use Rattle.rules.specs.declared.Standing.{Standing}
 use Rattle.rules.specs.Tickets.{ticketBytes, ticketOf, ticketSound, isFor, weightOf}
 use Rattle.log.specs.declared.Shown.{Shown}
-use Rattle.log.specs.Walks.{Seen, Plain, ticketsIn, PageShows}
+use Rattle.log.specs.Walks.{Seen, isPlain, ticketsIn, PageShows}
 
 -- the fields of ticket i of a page, where they lie
 pub ticket-is : (page : List ℕ) (i : ℕ)
@@ -65,16 +68,6 @@ module _ (x : ℕ → Ticket) (lot bag : ℕ) where
   unfolding allBelow lastBelow
   seen-more {n} {latest} {found} s h =
       rw add-one (record { sound = rw (s .sound, h); told = last-by found (isFor lot bag (x n)) n latest (s .told) })
-
-  -- tickets that are sound, and not for the lot and bag
-  pub seen-run : (k : ℕ) {n latest : ℕ} {found : Bool} → Seen x lot bag n found latest → ((t : ℕ) → n ≤ t → t < n + k → (ticketSound (x t) ≡ true) × (isFor lot bag (x t) ≡ false))
-      → Seen x lot bag (n + k) found latest
-  unfolding allBelow lastBelow
-  seen-run zero s h = rw add-zero s
-  seen-run (suc k) {n} s h =
-      let t = seen-run k s (λ i low high. h i low (omega arith)) in
-      let last = h (n + k) (omega arith) (omega arith) in
-      rw add-suc (record { sound = rw (t .sound, last .0); told = t .told ∙ rw (last .1) })
 
   -- what stands after n tickets, where `first` stood
   abbrev pub stood : Standing → ℕ → Standing
@@ -135,26 +128,83 @@ latest-fits {page} {lot} {bag} {r} p e =
     let last : lastBelow (r .kept) (λ t. isFor lot bag (ticketsIn page t)) ≡ At (r .latest) = sym (rw e at (p .seen .told)) in
     omega (arith, last-at (r .kept) (λ t. isFor lot bag (ticketsIn page t)) (r .latest) last, p .few)
 
--- the numbers that a short look compares
-plain-by : (t : Ticket) (lot : ℕ) → t .kind ≡ 1 → t .blank ≡ 0 → t .tare ≤ t .gross → t .lot ≢ lot → (ticketSound t ≡ true) × ((bag : ℕ) → isFor lot bag t ≡ false)
-unfolding ticketSound
-plain-by t lot kind blank tare other = (rw (kind, blank, le-leb (t .tare) (t .gross) tare), λ bag. rw (ne-eqb (t .lot) lot other))
+-- kind and the zero byte behind it, in the lower half of the word
+first-two : (page : List ℕ) (a : ℕ) → a + 4 ≤ length page → getD page a 0 < 256 → getD page (a + 1) 0 < 256
+    → number (part a 4 page) % 65536 ≡ getD page a 0 + 256 * getD page (a + 1) 0
+first-two page a fits low high = rw (number-four page a fits, number-two page a (omega arith)) (omega arith)
 
-pub plain-is : (page : List ℕ) (i lot : ℕ) → i * 16 + 16 ≤ length page → number (part (i * 16) 2 page) ≡ 1
-    → number (part (i * 16 + 12) 4 page) ≤ number (part (i * 16 + 8) 4 page) → number (part (i * 16 + 4) 4 page) ≢ lot → Plain page lot i
-plain-is page i lot fits first tare other =
-    let is = ticket-is page i in
-    let two : getD page (i * 16) 0 + 256 * getD page (i * 16 + 1) 0 ≡ 1 = sym (number-two page (i * 16) (omega arith)) ∙ first in
-    let h = plain-by (ticketsIn page i) lot
-    (sym (ap (λ (t : Ticket). t .kind) is) ∙ omega (arith, two))
-    (sym (ap (λ (t : Ticket). t .blank) is) ∙ omega (arith, two))
-    (rw (sym (ap (λ (t : Ticket). t .tare) is), sym (ap (λ (t : Ticket). t .gross) is)) tare)
-    (λ e. other (ap (λ (t : Ticket). t .lot) is ∙ e)) in
-    record { sound = h .0; other = h .1 }
+-- what the short look compares: the two as one number, the weights, and the lots
+pub record PlainWords (first gross tare its lot : ℕ) : Type 0 where
+  pub kind : first ≢ 1 → (first ≡ 2) × (gross ≡ 0)
+  pub weights : tare ≤ gross
+  pub other : its ≢ lot
 
--- plain tickets behind those that were seen
-pub seen-plain : {page : List ℕ} {lot bag n r latest : ℕ} {found : Bool} → Seen (ticketsIn page) lot bag n found latest → n ≤ r
-    → ((t : ℕ) → n ≤ t → t < r → Plain page lot t) → Seen (ticketsIn page) lot bag r found latest
-seen-plain {page} {lot} {bag} {n} {r} s low plain =
-    let e : n + (r - n) ≡ r = omega arith in
-    rw e at (seen-run (ticketsIn page) lot bag (r - n) s (λ t from to. let p = plain t from (omega arith) in (p .sound, p .other bag)))
+module _ (t : Ticket) (first lot : ℕ) (two : first ≡ t .kind + 256 * t .blank) where
+  words-say : PlainWords first (t .gross) (t .tare) (t .lot) lot → ticketSound t && not (eqb (t .lot) lot) ≡ true
+  unfolding ticketSound
+  words-say h =
+      let tare = le-leb (t .tare) (t .gross) (h .weights) in
+      let other = ne-eqb (t .lot) lot (h .other) in
+      by-same first 1
+      (λ e.
+      let kind : t .kind ≡ 1 = omega arith in
+      let blank : t .blank ≡ 0 = omega arith in
+      rw (kind, blank, tare, other))
+      (λ d.
+      let kind : t .kind ≡ 2 = omega (arith, h .kind d .0) in
+      let blank : t .blank ≡ 0 = omega (arith, h .kind d .0) in
+      let none = eq-eqb (t .tare) 0 (omega (arith, h .weights, h .kind d .1)) in
+      rw (kind, blank, eq-eqb (t .gross) 0 (h .kind d .1), none, tare, other))
+
+  words-said : ticketSound t && not (eqb (t .lot) lot) ≡ true → PlainWords first (t .gross) (t .tare) (t .lot) lot
+  unfolding ticketSound
+  words-said e =
+      let (sound, other) = and-both _ _ e in
+      let (rest, tare) = and-both _ _ sound in
+      let (start, weights) = and-both _ _ rest in
+      let (kinds, zero-byte) = and-both _ _ start in
+      let blank = eqb-true (t .blank) 0 zero-byte in
+      record {
+        kind = λ d.
+            let two-is = unless-equal (t .kind) 1 (eqb (t .kind) 2) kinds (λ q. d (omega arith)) in
+            (omega (arith, eqb-true (t .kind) 2 two-is), eqb-true (t .gross) 0 (and-left _ _ (under (eqb (t .kind) 2) _ weights two-is)));
+        weights = leb-true (t .tare) (t .gross) tare;
+        other = differ (t .lot) lot other;
+      }
+
+-- the words of ticket i
+abbrev WordsAt : List ℕ → ℕ → ℕ → Type 0
+WordsAt page i lot =
+    PlainWords (number (part (i * 16) 4 page) % 65536) (number (part (i * 16 + 8) 4 page)) (number (part (i * 16 + 12) 4 page)) (number (part (i * 16 + 4) 4 page)) lot
+
+module _ (page : List ℕ) (i lot : ℕ) (fits : i * 16 + 16 ≤ length page) (low : getD page (i * 16) 0 < 256) (high : getD page (i * 16 + 1) 0 < 256) where
+  plain-is : WordsAt page i lot → isPlain page lot i ≡ true
+  unfolding isPlain
+  plain-is h = rw (sym (ticket-is page i)) (words-say _ _ lot (first-two page (i * 16) (omega arith) low high) h)
+
+  plain-says : isPlain page lot i ≡ true → WordsAt page i lot
+  unfolding isPlain
+  plain-says e = words-said _ _ lot (first-two page (i * 16) (omega arith) low high) (rw (sym (ticket-is page i)) at e)
+
+  -- a test that says so of the words
+  pub plain-by : (test : Bool) → (test ≡ true → WordsAt page i lot) → (WordsAt page i lot → test ≡ true) → test ≡ isPlain page lot i
+  plain-by test there back = same-tests test (isPlain page lot i) (λ e. plain-is (there e)) (λ e. back (plain-says e))
+
+-- whether all tickets are plain so far
+pub plain-none : (page : List ℕ) (lot : ℕ) → true ≡ allBelow 0 (isPlain page lot)
+unfolding allBelow
+plain-none page lot = refl
+
+pub plain-more : (page : List ℕ) (lot i : ℕ) {plain one : Bool} → plain ≡ allBelow i (isPlain page lot) → one ≡ isPlain page lot i
+    → plain && one ≡ allBelow (i + 1) (isPlain page lot)
+unfolding allBelow
+plain-more page lot i e f = rw (add-one, e, f)
+
+-- plain tickets, of which none is for the lot and bag
+pub seen-plain : (page : List ℕ) (lot bag n : ℕ) → ((t : ℕ) → t < n → isPlain page lot t ≡ true) → Seen (ticketsIn page) lot bag n false 0
+unfolding allBelow lastBelow isPlain
+seen-plain page lot bag zero h = seen-none (ticketsIn page) lot bag
+seen-plain page lot bag (suc n) h =
+    let (sound, other) = and-both (ticketSound (ticketsIn page n)) (not (eqb (ticketsIn page n .lot) lot)) (h n (omega arith)) in
+    let s = seen-plain page lot bag n (λ t b. h t (omega arith)) in
+    record { sound = rw (s .sound, sound); told = s .told ∙ rw (not-true (eqb (ticketsIn page n .lot) lot) other) }

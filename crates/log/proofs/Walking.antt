@@ -34,6 +34,10 @@ use Rattle.log.specs.declared.Walk.{Walk}
 use Rattle.log.specs.Walks.{ticketsIn, standingFrom, positionOf, PageShows, PageLooked, Walked, broken, walkOf}
 use Rattle.log.proofs.Seeing.{StandsTo, stands-none, seen-page, stood-is}
 
+-- a store has few pages
+pub pages-few : (l : Layout) → Within l → l .N * l .S ≤ 393210
+pages-few l w = mul-le-mul (w .members-high) (w .stripes-high)
+
 -- a sound ticket is not empty
 kind-some : (k : ℕ) → eqb k 1 || eqb k 2 ≡ true → eqb k 0 ≡ false
 kind-some k e = by-test (eqb k 1)
@@ -153,9 +157,6 @@ module _ (l : Layout) (s : Images) (lost lot bag : ℕ) where
         }
 
   module _ (w : Within l) where
-    pub pages-few : N * S ≤ 393210
-    pages-few = mul-le-mul (w .members-high) (w .stripes-high)
-
     module _ {reads i : ℕ} {r : Looked} (x : Next reads i r) where
       pub walk-ended : {last : Standing} → last ≡ standingFrom (r .latest) → r .shown .ended ≡ true → r .shown .kept < perPage l
           → Walked l s lost lot bag (record { sound = true; end = At (i * perPage l + r .shown .kept); reads = reads + r .reads; standing = last })
@@ -166,7 +167,7 @@ module _ (l : Layout) (s : Images) (lost lot bag : ℕ) where
           let t = ended l (contents l s lost) lot bag (x .seen) (digits-lt (x .inside) h) empty in
           record {
             tells = rw (stands, t .0, t .1, t .2, digits-div i h, x .counted);
-            few = omega (arith, x .few, x .inside, pages-few);
+            few = omega (arith, x .few, x .inside, pages-few l w);
           }
 
       pub walk-broken : {o : Walk} → o ≡ broken → r .shown .ended ≡ false → Walked l s lost lot bag o
@@ -190,7 +191,7 @@ module _ (l : Layout) (s : Images) (lost lot bag : ℕ) where
         let t = full l (contents l s lost) lot bag (rw all at (g .seen)) in
         record {
           tells = rw (stands, t .0, t .1, t .2, g .counted, all);
-          few = omega (arith, g .few, g .below, pages-few);
+          few = omega (arith, g .few, g .below, pages-few l w);
         }
 
   -- what the walk tells of the log

@@ -16,8 +16,10 @@ ghost use mathlib.Core.Path.{_≡_};
 ghost use mathlib.Core.Bool.{true, false, cond};
 ghost use Prim.Native.Nat.{ℕ, _+_, _*_, _/_, _≤_, _<_};
 ghost use lib.ListN.{length};
-ghost use Rattle.bytes.specs.Units.{unit, unitPut};
+ghost use Rattle.bytes.specs.Number.{number};
+ghost use Rattle.bytes.specs.Units.{part, unit, unitPut};
 ghost use Rattle.ranges.specs.declared.Found.the-variants.{At};
+ghost use Rattle.ranges.specs.Look.{allBelow};
 ghost use Rattle.layout.specs.Layout.{layoutOf, limits};
 ghost use Rattle.layout.specs.Record.{recordAt};
 ghost use Rattle.steps.specs.Allowance.{images};
@@ -27,10 +29,18 @@ ghost use Rattle.rules.specs.Log.{contents};
 ghost use Rattle.fetch.specs.Into.{isDirect};
 ghost use Rattle.rules.specs.Tickets.{ticketBytes, ticketOf, ticketSound, isFor, weightOf};
 ghost use Rattle.codec.specs.Fit.{ChipsFit, RecordsFit, SlotsFit};
-ghost use Rattle.log.specs.Walks.{broken as brokenWalk, ticketsIn, standingFrom, positionOf, Plain, PageShows, PageLooked, Walked};
+ghost use Rattle.log.specs.Walks.{broken as brokenWalk, ticketsIn, standingFrom, positionOf, isPlain, PageShows, PageLooked, Walked};
 
 // The bytes of a ticket.
 pub const TICKET: usize = 16;
+
+// The four bytes at offset a as a word.
+fn word(page: &[u8], a: usize) -> u32
+    requires { ⌜ a + 4 ≤ length (now page) ⌝ }
+    ensures { λ r. ⌜ r ≡ number (part a 4 (now (page .entry))) ⌝ }
+{
+    number_of_four(page, a) as u32
+}
 
 // Ticket i of a page.
 pub fn ticket_in(page: &[u8], i: usize) -> Ticket
@@ -42,9 +52,9 @@ pub fn ticket_in(page: &[u8], i: usize) -> Ticket
         kind: page[a],
         blank: page[a + 1],
         bag: number_at(page, a + 2) as u16,
-        lot: number_of_four(page, a + 4) as u32,
-        gross: number_of_four(page, a + 8) as u32,
-        tare: number_of_four(page, a + 12) as u32,
+        lot: word(page, a + 4),
+        gross: word(page, a + 8),
+        tare: word(page, a + 12),
     }
 }
 
@@ -93,31 +103,34 @@ struct Shown {
     latest: usize,
 }
 
-// A short look: true of a sound weight of another lot, as nearly all tickets of a log are; of the others nothing is said.
+// Whether ticket i of a page is sound and of another lot. It is looked at in words, without a branch, so that many are looked at in one go.
 fn is_plain(page: &[u8], i: usize, lot: u32) -> bool
     requires { ⌜ i * ticketBytes + ticketBytes ≤ length (now page) ⌝ }
-    ensures { λ r. ⌜ (r ≡ true → Plain (now (page .entry)) lot i) ⌝ }
+    ensures { λ r. ⌜ r ≡ isPlain (now (page .entry)) lot i ⌝ }
 {
     let a = i * TICKET;
-    (number_at(page, a) == 1)
-        & (number_of_four(page, a + 12) <= number_of_four(page, a + 8))
-        & (number_of_four(page, a + 4) != lot as usize)
+    // kind, and behind it the zero byte
+    let kind = word(page, a) % 65536;
+    let gross = word(page, a + 8);
+    ((kind == 1) | ((kind == 2) & (gross == 0)))
+        & (word(page, a + 12) <= gross)
+        & (word(page, a + 4) != lot)
 }
 
-// The place of the next ticket that is to be looked at in full, or the end of the page.
-fn plain_to(page: &[u8], first: usize, lot: u32) -> usize
-    requires { ⌜ first ≤ length (now page) / ticketBytes ⌝ }
-    ensures { λ r. ⌜ (first ≤ r) × (r ≤ length (now (page .entry)) / ticketBytes) × ((t : ℕ) → first ≤ t → t < r → Plain (now (page .entry)) lot t) ⌝ }
+// Whether all tickets of a page are, as on nearly all pages of a log.
+fn all_plain(page: &[u8], lot: u32) -> bool
+    ensures { λ r. ⌜ r ≡ allBelow (length (now (page .entry)) / ticketBytes) (isPlain (now (page .entry)) lot) ⌝ }
 {
     let per_page = page.len() / TICKET;
-    let mut i = first;
-    while i < per_page {
-        if !is_plain(page, i, lot) {
-            return i;
-        }
-        i += 1;
+    // one ticket takes less than to begin a loop over many
+    if per_page == 1 {
+        return is_plain(page, 0, lot);
     }
-    i
+    let mut plain = true;
+    for i in 0..per_page {
+        plain = plain & is_plain(page, i, lot);
+    }
+    plain
 }
 
 // Looks at the tickets of a page. What is carried from one to the next are numbers alone, so that it stays in registers.
@@ -125,9 +138,17 @@ fn look_at(page: &[u8], lot: u32, bag: u16) -> Shown
     ensures { λ r. ⌜ PageShows (now (page .entry)) lot bag r ⌝ }
 {
     let per_page = page.len() / TICKET;
+    if all_plain(page, lot) {
+        return Shown {
+            kept: per_page,
+            ended: true,
+            found: false,
+            latest: 0,
+        };
+    }
     let mut found = false;
     let mut latest = 0;
-    let mut i = plain_to(page, 0, lot);
+    let mut i = 0;
     while i < per_page {
         let t = ticket_in(page, i);
         if !is_sound(t) {
@@ -142,8 +163,7 @@ fn look_at(page: &[u8], lot: u32, bag: u16) -> Shown
         let later = pick(fits, i, latest);
         found = found | fits;
         latest = later;
-        let next = plain_to(page, i + 1, lot);
-        i = next;
+        i += 1;
     }
     Shown {
         kept: i,

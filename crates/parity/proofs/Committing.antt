@@ -3,9 +3,11 @@ use Prim.Native.Nat.{ℕ, zero, suc, _<_}
 use native.Mathlib.Omega.{arith}
 use mathlib.Core.Path.{_≡_, ap, fun-ext}
 use mathlib.Core.List.{List, [], _∷_, _++_}
-use lib.ListN.{getD, replicate}
+use lib.ListN.{getD, replicate, getD-replicate}
+use borrow.Author.Tests.{le-ltb}
+use Rattle.ranges.proofs.Looks.{by-order}
 use Rattle.layout.specs.declared.Geometry.{Geometry}
-use Rattle.layout.specs.Layout.{Layout, layoutOf}
+use Rattle.layout.specs.Layout.{Layout, layoutOf, none}
 use Rattle.layout.specs.Rotation.{parityChip}
 use Rattle.layout.specs.Page.{pageAt}
 use Rattle.layout.specs.Record.{Record, recordAt}
@@ -17,14 +19,17 @@ use Rattle.rules.specs.Fetch.{feedRole, feedIn}
 use Rattle.rules.specs.Parity.{newParity, parityPage, committed, commitAt}
 use Rattle.codec.specs.declared.StripeRecord.{StripeRecord}
 use Rattle.codec.specs.Views.{sixOf, recordFrom}
-use Rattle.fetch.proofs.Others.{nones}
+use Rattle.codec.proofs.Encodings.{six-in}
 use Rattle.parity.specs.Members.{parityIn}
 
 -- ---- the record
 
 -- six numbers of no page, as a record has them
 pub no-olds : (g : Geometry) → sixOf (layoutOf g) (replicate 6 65535) ≡ (λ m. 65535)
-no-olds g = fun-ext (nones g)
+unfolding sixOf none
+no-olds g = fun-ext λ m. by-order m 6
+    (λ low. rw (six-in (layoutOf g) (replicate 6 65535) m low) (getD-replicate 6 m 65535 0 low))
+    (λ high. rw (le-ltb m 6 high))
 
 -- numbers that are all the same small one
 pub same-small : (n v b m : ℕ) → v < b → getD (replicate n v) m 0 < b

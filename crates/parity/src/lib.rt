@@ -37,13 +37,15 @@ ghost use Rattle.parity.specs.Members.{membersIn, parityIn};
 fn gather_members(
     work: &mut [u8],
     chips: &[u8],
+    records: &[u8],
     slots: &[u8],
     g: Geometry,
     j: usize,
     e: StripeRecord,
     inside: bool,
 ) -> u64
-    requires { ⌜ ChipsFit g (now chips) × SlotsFit g (now slots) × (length (now work) ≡ g .w) × (recordSound (layoutOf g) (recordFrom (layoutOf g) e) ≡ true) ⌝ }
+    requires { ⌜ ChipsFit g (now chips) × RecordsFit g (now records) × SlotsFit g (now slots) × (length (now work) ≡ g .w) × (j < g .s)
+        × (recordFrom (layoutOf g) e ≡ recordAt (layoutOf g) (now records) j) × (recordSound (layoutOf g) (recordFrom (layoutOf g) e) ≡ true) ⌝ }
     ensures { λ r. ⌜ (now (work .exit) ≡ now (work .entry) ⊕ membersIn g (now (chips .entry)) (now (slots .entry)) j e inside .bytes)
         × (r ≡ membersIn g (now (chips .entry)) (now (slots .entry)) j e inside .reads) × (r ≤ 42) ⌝ }
 {
@@ -57,7 +59,7 @@ fn gather_members(
             } else {
                 Role::Current(m)
             };
-            let got = fetch(work, chips, slots, g, NO_CHIP, j, e, role);
+            let got = fetch(work, chips, records, slots, g, NO_CHIP, j, role, false);
             reads += got.reads;
         }
         m += 1;
@@ -69,22 +71,25 @@ fn gather_members(
 fn new_parity(
     work: &mut [u8],
     chips: &[u8],
+    records: &[u8],
     slots: &[u8],
     g: Geometry,
     j: usize,
     e: StripeRecord,
 ) -> u64
-    requires { ⌜ ChipsFit g (now chips) × SlotsFit g (now slots) × (length (now work) ≡ g .w)
-        × (recordSound (layoutOf g) (recordFrom (layoutOf g) e) ≡ true) × (hasSlot (recordFrom (layoutOf g) e) ≡ true) ⌝ }
+    requires { ⌜ ChipsFit g (now chips) × RecordsFit g (now records) × SlotsFit g (now slots) × (length (now work) ≡ g .w) × (j < g .s)
+        × (recordFrom (layoutOf g) e ≡ recordAt (layoutOf g) (now records) j) × (recordSound (layoutOf g) (recordFrom (layoutOf g) e) ≡ true)
+        × (hasSlot (recordFrom (layoutOf g) e) ≡ true) ⌝ }
     ensures { λ r. ⌜ (now (work .exit) ≡ parityIn g (now (chips .entry)) (now (slots .entry)) j e .bytes)
         × (r ≡ parityIn g (now (chips .entry)) (now (slots .entry)) j e .reads) × (r ≤ mostReads) ⌝ }
 {
     copy(work, slot_data(slots, g, e.slot));
     if most_in_partial(g.n as usize, set_bits(g, e.bitmap)) {
-        return gather_members(work, chips, slots, g, j, e, false);
+        return gather_members(work, chips, records, slots, g, j, e, false);
     }
-    let got = fetch(work, chips, slots, g, NO_CHIP, j, e, Role::Parity);
-    got.reads + gather_members(work, chips, slots, g, j, e, true)
+    let role = Role::Parity;
+    let got = fetch(work, chips, records, slots, g, NO_CHIP, j, role, false);
+    got.reads + gather_members(work, chips, records, slots, g, j, e, true)
 }
 
 // The record with its new parity page q: no olds, no bitmap, no slot.
@@ -119,7 +124,7 @@ pub fn commit_at(
         r (images (now (chips .entry)) (now (records .entry)) (now (slots .entry))) (images (now (chips .exit)) (now (records .exit)) (now (slots .entry))) ⌝ }
 {
     let e = record_at(records, g, j);
-    let reads = new_parity(work, chips, slots, g, j, e);
+    let reads = new_parity(work, chips, records, slots, g, j, e);
     let spare = Spare {
         kind: PARITY,
         member: 0,

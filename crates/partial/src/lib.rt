@@ -37,6 +37,7 @@ ghost use Rattle.partial.specs.Feed.{partialIn};
 fn new_partial(
     work: &mut [u8],
     chips: &[u8],
+    records: &[u8],
     slots: &[u8],
     g: Geometry,
     j: usize,
@@ -44,8 +45,8 @@ fn new_partial(
     bytes: &[u8],
     e: StripeRecord,
 ) -> u64
-    requires { ⌜ ChipsFit g (now chips) × SlotsFit g (now slots) × (length (now work) ≡ g .w) × (length (now bytes) ≡ g .w) × (m < g .n)
-        × (recordSound (layoutOf g) (recordFrom (layoutOf g) e) ≡ true) ⌝ }
+    requires { ⌜ ChipsFit g (now chips) × RecordsFit g (now records) × SlotsFit g (now slots) × (length (now work) ≡ g .w) × (length (now bytes) ≡ g .w) × (j < g .s) × (m < g .n)
+        × (recordFrom (layoutOf g) e ≡ recordAt (layoutOf g) (now records) j) × (recordSound (layoutOf g) (recordFrom (layoutOf g) e) ≡ true) ⌝ }
     ensures { λ r. ⌜ (now (work .exit) ≡ partialIn g (now (chips .entry)) (now (slots .entry)) j m (now (bytes .entry)) e .bytes)
         × (r ≡ partialIn g (now (chips .entry)) (now (slots .entry)) j m (now (bytes .entry)) e .reads) × (r ≤ mostReads) ⌝ }
 {
@@ -56,7 +57,8 @@ fn new_partial(
     copy(work, slot_data(slots, g, e.slot));
     let mut reads = 0;
     if bit_of(e.bitmap, m) {
-        let got = fetch(work, chips, slots, g, NO_CHIP, j, e, Role::Current(m));
+        let role = Role::Current(m);
+        let got = fetch(work, chips, records, slots, g, NO_CHIP, j, role, false);
         reads = got.reads;
     }
     xor_into(work, bytes);
@@ -101,7 +103,7 @@ fn store_partial(
     match free {
         Found::At(i) => {
             let e = record_at(records, g, j);
-            let reads = new_partial(work, chips, slots, g, j, m, bytes, e);
+            let reads = new_partial(work, chips, records, slots, g, j, m, bytes, e);
             let run = store_slot(slots, g, i, work, reads, p);
             store_record(records, g, j, written(e, m, q, i), run)
         }

@@ -2,5 +2,6 @@
 pub mod Alive
 pub mod Events
 pub mod Invariant
+pub mod OnlyAdditions
 pub mod Taken
 pub mod Tickets

@@ -1,7 +1,8 @@
 -- The page goes through the work page, since the chips cannot be read while they are lent to be stored into.
 use mathlib.Core.Path.{_≡_, refl, sym, ap, subst, _∙_}
 use mathlib.Core.Bool.{true}
-use lib.ListN.{length}
+use Prim.Native.Nat.{ℕ}
+use lib.ListN.{length, replicate}
 use denote.Ref.{now}
 use native.Mathlib.Omega.{arith}
 use borrow.Author.Needs.{needs}
@@ -42,27 +43,27 @@ role-of-requires c κs =
     let s = entry c in
     (s .pre .1, rw (stripe-there c) (s .pre .7 .stripe), s .pre .3)
 
-fetch-page-requires : tie.Need-fetch-page-requires
-fetch-page-requires c κs =
+fetch-requires : tie.Need-fetch-requires
+fetch-requires c κs =
     let k = c .before .before .before in
     let s = entry k in
     (s .pre .0, s .pre .1, s .pre .2, s .pre .8, rw (stripe-there k) (s .pre .7 .stripe), c .before .before .role-of .ensures .1, sound-there k)
 
 -- what was read for the fetch
-abbrev told : tie.After-fetch-page → tie.After-spare-at
+abbrev told : tie.After-fetch → tie.After-spare-at
 told c = c .before .before .before .before
 
-abbrev start : tie.After-fetch-page → tie.Start
+abbrev start : tie.After-fetch → tie.Start
 start c = entry (told c)
 
-abbrev before : tie.After-fetch-page → Images
+abbrev before : tie.After-fetch → Images
 before c = let a = start c .args in images (now (a .chips)) (now (a .records)) (now (a .slots))
 
 -- the work page has what the copy is fed with
-held : (c : tie.After-fetch-page)
+held : (c : tie.After-fetch)
     → let a = start c .args in
     let l = layoutOf (a .g) in
-    (c .fetch-page .last .0 ≡ copyFeed l (a .c) (before c) (a .p) .bytes) × (c .fetch-page .result .reads ≡ copyFeed l (a .c) (before c) (a .p) .reads) × (length (c .fetch-page .last .0) ≡ a .g .w)
+    (c .fetch .last .0 ≡ copyFeed l (a .c) (before c) (a .p) .bytes) × (c .fetch .result .reads ≡ copyFeed l (a .c) (before c) (a .p) .reads) × (length (c .fetch .last .0) ≡ a .g .w)
 held c =
     let s = start c in
     let a = s .args in
@@ -73,7 +74,7 @@ held c =
     (into-same
     (ap (λ (q : Role). fetchIn l (before c) noChip j q) (c .before .before .before .role-of .ensures .0)
     ∙ ap (λ i. fetchIn l (before c) noChip i (roleOf l (a .c) i (r i) (a .p))) (stripe-there (told c)))
-    refl (c .fetch-page .ensures))
+    (ap (λ (n : ℕ). replicate n 0) (s .pre .8)) (c .fetch .ensures))
 
 program-requires : tie.Need-program-requires
 unfolding none
@@ -88,7 +89,7 @@ program-requires c κs =
       s .pre .5,
       held k .2,
       record { kind = t .kind; member = t .member; stripe = t .stripe; copied = omega (arith, s .pre .4, w .pages-numbered) },
-      omega (arith, k .fetch-page .ensures .few),
+      omega (arith, k .fetch .ensures .few),
       s .pre .6,
     )
 
@@ -107,7 +108,7 @@ copy-page-spec =
     (tie.spec
     (λ c κs. search needs)
     role-of-requires
-    fetch-page-requires
+    fetch-requires
     program-requires
     (λ c. search needs)
     (λ c. search needs)

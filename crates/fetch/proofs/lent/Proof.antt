@@ -5,18 +5,16 @@ use mathlib.Core.Path.{_≡_, _∙_}
 use denote.Ref.{now}
 use Rattle.layout.specs.Layout.{layoutOf}
 use Rattle.layout.specs.Record.{recordAt}
-use Rattle.layout.proofs.Limits.{within}
-use Rattle.fetch.proofs.Others.{number-current}
+use Rattle.fetch.proofs.Others.{six, number-current}
 use Rattle.fetch.proofs.lent.Statement.{statement}
 use Rattle.fetch.proofs.lent.Tie as tie
 
--- the members are six at most
-six : (s : tie.Start) → s .args .m < 6
-six s = omega (arith, s .pre .4, within (layoutOf (s .args .g)) (s .pre .0 .limited) .members-high)
+low : (s : tie.Start) → s .args .m < 6
+low s = six (s .args .g) (s .pre .0 .limited) (s .pre .4)
 
 -- the number is the member's current one
 number : (c : tie.After-number-in) → let s = c .before .before .before .before .before in c .number-in .result ≡ recordAt (layoutOf (s .args .g)) (now (s .args .records)) (s .args .j) .current (s .args .m)
-number c = let s = c .before .before .before .before .before in c .number-in .ensures .0 ∙ number-current (recordAt (layoutOf (s .args .g)) (now (s .args .records)) (s .args .j)) (s .args .m) (six s)
+number c = let s = c .before .before .before .before .before in c .number-in .ensures .0 ∙ number-current (recordAt (layoutOf (s .args .g)) (now (s .args .records)) (s .args .j)) (s .args .m) (low s)
 
 page-data-requires : tie.Need-page-data-requires
 page-data-requires c κs =
@@ -39,4 +37,4 @@ returns-2 c = (rw (c .if1 .left), c .before .before .before .before .pre .2)
 pub lent-spec : {M : Type 1} → statement M
 lent-spec =
     tie.close
-    (tie.spec (λ c κs. let s = c .before .before .before .before in (s .pre .1, s .pre .3, omega (arith, six s))) (λ c κs. six (c .before .before .before .before .before)) page-data-requires returns returns-2)
+    (tie.spec (λ c κs. let s = c .before .before .before .before in (s .pre .1, s .pre .3, omega (arith, low s))) (λ c κs. low (c .before .before .before .before .before)) page-data-requires returns returns-2)

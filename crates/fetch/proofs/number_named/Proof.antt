@@ -6,8 +6,7 @@ use denote.Ref.{now}
 use borrow.Author.Needs.{needs}
 use Rattle.layout.specs.Layout.{layoutOf}
 use Rattle.layout.specs.Record.{recordAt}
-use Rattle.layout.proofs.Limits.{within}
-use Rattle.fetch.proofs.Others.{number-current, number-old, number-parity}
+use Rattle.fetch.proofs.Others.{six, current-fits, old-fits, number-current, number-old, number-parity}
 use Rattle.fetch.proofs.number_named.Statement.{statement}
 use Rattle.fetch.proofs.number_named.Tie as tie
 
@@ -15,12 +14,12 @@ use Rattle.fetch.proofs.number_named.Tie as tie
 current : (c : tie.After-role) → c .role .given .0 .0 < 6
 current c =
     let s = c .before .before .before in
-    omega (arith, within (layoutOf (s .args .g)) (s .pre .0 .limited) .members-high, rw (c .role .given .1) at (s .pre .2))
+    six (s .args .g) (s .pre .0 .limited) (current-fits (s .args .g) (c .role .given .1) (s .pre .2))
 
 old : (c : tie.After-role2) → c .role2 .given .0 .0 < 6
 old c =
     let s = c .before .before .before in
-    omega (arith, within (layoutOf (s .args .g)) (s .pre .0 .limited) .members-high, rw (c .role2 .given .1) at (s .pre .2))
+    six (s .args .g) (s .pre .0 .limited) (old-fits (s .args .g) (c .role2 .given .1) (s .pre .2))
 
 returns : tie.Need-returns
 returns c =

@@ -1,10 +1,9 @@
 -- The next member of the stripe, or the first of the next stripe.
 use Prim.Native.Nat.{_*_, _≤_}
-use native.Mathlib.Nat.{mul-le-mul}
 use borrow.Author.Needs.{needs}
 use Rattle.layout.specs.Layout.{Layout, layoutOf}
 use Rattle.layout.proofs.Limits.{Within, within}
-use Rattle.log.proofs.Walking.{position-same, position-next, at-stripe, at-member}
+use Rattle.log.proofs.Walking.{pages-few, position-same, position-next, at-stripe, at-member}
 use Rattle.log.proofs.next_page.Statement.{statement}
 use Rattle.log.proofs.next_page.Tie as tie
 
@@ -15,7 +14,7 @@ inside : (s : tie.Start) → Within (layout s)
 inside s = within (layout s) (s .pre .0)
 
 few-pages : (s : tie.Start) → s .args .g .n * s .args .g .s ≤ 393210
-few-pages s = mul-le-mul (inside s .members-high) (inside s .stripes-high)
+few-pages s = pages-few (layout s) (inside s)
 
 returns : tie.Need-returns
 returns c = let s = c .before .before .before in position-same (layout s) (inside s) (s .pre .1) (c .before .if1 .taken)

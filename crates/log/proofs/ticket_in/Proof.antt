@@ -7,12 +7,7 @@ use Rattle.log.proofs.ticket_in.Tie as tie
 returns : tie.Need-returns
 returns c =
     let a = c .before .before .before .before .before .before .before .args in
-    rw (
-      c .before .before .before .number-at .ensures .0,
-      c .before .before .number-of-four .ensures .0,
-      c .before .number-of-four2 .ensures .0,
-      c .number-of-four3 .ensures .0,
-    )
+    rw (c .before .before .before .number-at .ensures .0, c .before .before .word .ensures, c .before .word2 .ensures, c .word3 .ensures)
     (ticket-is (a .page .now) (a .i))
 
 pub ticket-in-spec : {M : Type 1} → statement M
@@ -29,10 +24,7 @@ ticket-in-spec =
     (λ c. search needs)
     (λ c κs. search needs)
     (λ c. search needs)
-    (λ c. search needs)
     (λ c κs. search needs)
     (λ c. search needs)
-    (λ c. search needs)
     (λ c κs. search needs)
-    (λ c. search needs)
     returns)

@@ -41,7 +41,7 @@ per-page : (s : tie.Start Inv-loop μ-loop) → length (now (s .args .work)) / t
 per-page s = rw (s .pre .3)
 
 few-pages : (s : tie.Start Inv-loop μ-loop) → s .args .g .n * s .args .g .s ≤ 393210
-few-pages s = pages-few (layout s) (given s) (s .args .lost) (s .args .lot) (s .args .bag) (inside s)
+few-pages s = pages-few (layout s) (inside s)
 
 -- the places before a page are far fewer than a word counts
 few-places : (s : tie.Start Inv-loop μ-loop) (i : ℕ) → i < s .args .g .n * s .args .g .s → i * (length (now (s .args .work)) / ticketBytes) ≤ 100661760

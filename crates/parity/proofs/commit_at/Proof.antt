@@ -23,17 +23,17 @@ abbrev made : tie.After-program → tie.After-new-parity
 made c = c .before .before .before .before .before .before
 
 abbrev entry : tie.After-new-parity → tie.After-record-at
-entry c = c .before .before .before
+entry c = c .before .before .before .before
 
 abbrev start : tie.After-record-at → tie.Start
 start c = c .before .before .before .before .before .before
 
 new-parity-requires : tie.Need-new-parity-requires
 new-parity-requires c κs =
-    let e = c .before .before in
+    let e = c .before .before .before in
     let s = start e in
     let is = record-is (s .args .g) (now (s .args .records)) (s .args .j) (e .record-at .ensures) (s .pre .7) in
-    (s .pre .0, s .pre .2, s .pre .3, rw is (s .pre .7), rw is (s .pre .8))
+    (s .pre .0, s .pre .1, s .pre .2, s .pre .3, s .pre .4, is, rw is (s .pre .7), rw is (s .pre .8))
 
 program-requires : tie.Need-program-requires
 program-requires c κs =

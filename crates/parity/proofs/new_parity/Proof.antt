@@ -2,7 +2,10 @@
 use mathlib.Core.Path.{_≡_, refl, sym, ap, _∙_}
 use denote.Ref.{now}
 use borrow.Author.Needs.{needs}
-use Rattle.layout.specs.Layout.{layoutOf}
+use Rattle.layout.specs.Layout.{layoutOf, noChip}
+use Rattle.steps.specs.Allowance.{images}
+use Rattle.rules.specs.declared.Role.the-variants.{Parity}
+use Rattle.fetch.proofs.Pages.{fetched-from}
 use Rattle.layout.specs.Images.{slotAt}
 use Rattle.layout.proofs.Limits.{within}
 use Rattle.rules.specs.Costs.{setBits, mostInPartial}
@@ -16,15 +19,15 @@ use Rattle.parity.proofs.new_parity.Tie as tie
 slot-data-requires : tie.Need-slot-data-requires
 unfolding recordFrom
 slot-data-requires c κs =
-    let s = c .before .before .before .before in
+    let s = c .before .before .before .before .before in
     let l = layoutOf (s .args .g) in
     let r = recordFrom l (s .args .e) in
-    let sound = record-sound l r (s .pre .3) in
-    (s .pre .1, sound .slot (slot-bits l r sound (s .pre .4)))
+    let sound = record-sound l r (s .pre .6) in
+    (s .pre .2, sound .slot (slot-bits l r sound (s .pre .7)))
 
 -- what the function was called with, before its test
 abbrev start : tie.After-most-in-partial → tie.Start
-start c = c .before .before .before .before .before .before .before .before .before .before
+start c = c .before .before .before .before .before .before .before .before .before .before .before
 
 -- the slot is what stands in the work page
 first : (c : tie.After-most-in-partial)
@@ -59,7 +62,27 @@ returns-2 c =
     let s = start t in
     let a = s .args in
     let called = c .before .before .before .gather-members2 .ensures in
-    parity-inside (a .g) (within (layoutOf (a .g)) (s .pre .0 .limited)) (now (a .chips)) (now (a .slots)) (a .j) (a .e) (first t) (told t ∙ k .before .before .if1 .left) (k .fetch .ensures) (called .0) (called .1)
+    parity-inside (a .g) (within (layoutOf (a .g)) (s .pre .0 .limited)) (now (a .chips)) (now (a .slots)) (a .j) (a .e) (first t) (told t ∙ k .before .before .if1 .left)
+    (fetched-from (layoutOf (a .g)) (images (now (a .chips)) (now (a .records)) (now (a .slots))) noChip (a .j) Parity (s .pre .5) (k .fetch .ensures)) (called .0) (called .1)
+
+gather-members-requires : tie.Need-gather-members-requires
+gather-members-requires c κs =
+    let t = c .before .before in
+    let s = start t in
+    (s .pre .0, s .pre .1, s .pre .2, t .before .before .before .before .copy .kept .0 ∙ s .pre .3, s .pre .4, s .pre .5, s .pre .6)
+
+fetch-requires : tie.Need-fetch-requires
+fetch-requires c κs =
+    let t = c .before .before in
+    let s = start t in
+    (s .pre .0, s .pre .1, s .pre .2, t .before .before .before .before .copy .kept .0 ∙ s .pre .3, s .pre .4, tt, rw (← s .pre .5) (s .pre .6))
+
+gather-members-requires-2 : tie.Need-gather-members-requires-2
+gather-members-requires-2 c κs =
+    let k = c .before .before .before in
+    let t = k .before .before .before in
+    let s = start t in
+    (s .pre .0, s .pre .1, s .pre .2, k .fetch .kept .0 ∙ t .before .before .before .before .copy .kept .0 ∙ s .pre .3, s .pre .4, s .pre .5, s .pre .6)
 
 pub new-parity-spec : {M : Type 1} → statement M
 new-parity-spec =
@@ -68,12 +91,12 @@ new-parity-spec =
     slot-data-requires
     (λ c κs. search needs)
     (λ c κs. search needs)
-    (λ c κs. let s = c .before .before .before .before .before .before .before .before .before in within (layoutOf (s .args .g)) (s .pre .0 .limited) .members-high)
-    (λ c κs. search needs)
+    (λ c κs. let s = c .before .before .before .before .before .before .before .before .before .before in within (layoutOf (s .args .g)) (s .pre .0 .limited) .members-high)
+    gather-members-requires
     (λ c. search needs)
     returns
-    (λ c κs. search needs)
-    (λ c κs. search needs)
+    fetch-requires
+    gather-members-requires-2
     (λ c. search needs)
     (λ c. search needs)
     returns-2)

@@ -23,7 +23,7 @@ abbrev partial : tie.After-store-slot → tie.After-new-partial
 partial c = c .before .before .before .before .before
 
 abbrev entry : tie.After-new-partial → tie.After-record-at
-entry c = c .before .before .before
+entry c = c .before .before .before .before
 
 abbrev slot : tie.After-record-at → tie.After-free
 slot c = c .before .before .before
@@ -45,8 +45,10 @@ fits c =
 
 new-partial-requires : tie.Need-new-partial-requires
 new-partial-requires c κs =
-    let s = start (slot (c .before .before)) in
-    (s .pre .0, s .pre .2, s .pre .3, s .pre .6, s .pre .5, rw (record-is (s .args .g) (now (s .args .records)) (s .args .j) (c .before .before .record-at .ensures) (s .pre .8)) (s .pre .8))
+    let e = c .before .before .before in
+    let s = start (slot e) in
+    let is = record-is (s .args .g) (now (s .args .records)) (s .args .j) (e .record-at .ensures) (s .pre .8) in
+    (s .pre .0, s .pre .1, s .pre .2, s .pre .3, s .pre .6, s .pre .4, s .pre .5, is, rw is (s .pre .8))
 
 store-slot-requires : tie.Need-store-slot-requires
 store-slot-requires c κs =

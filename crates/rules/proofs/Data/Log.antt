@@ -48,10 +48,10 @@ module _ (l : Layout) where
 
   module _ (w : Within l) where
     -- a page is tickets and nothing else
-    some-tickets : 0 < perPage l
+    pub some-tickets : 0 < perPage l
     some-tickets = omega (arith, w .bytes-low)
 
-    all-tickets : perPage l * ticketBytes ≡ W
+    pub all-tickets : perPage l * ticketBytes ≡ W
     all-tickets = omega (arith, w .bytes-unit)
 
     pub page-fits : (t : ℕ) → t < places l → fallsIn l t < N * S

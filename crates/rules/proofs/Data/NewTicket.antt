@@ -21,7 +21,7 @@ use Rattle.rules.proofs.Data.Log.{end-fits}
 sound-full : (xs : List ℕ) → ticketSound (ticketOf xs) ≡ true → isEmpty (ticketOf xs) ≡ false
 unfolding ticketSound
 sound-full xs h =
-    by-test (isEmpty (ticketOf xs)) (λ e. both false (rw (eqb-true (ticketOf xs .kind) 0 e) at h) refl) (λ e. e)
+    by-test (isEmpty (ticketOf xs)) (λ e. both false (rw (eqb-true (ticketOf xs .kind) _ e) at h) refl) (λ e. e)
 
 module _ (l : Layout) where
   -- the log of f ends at t, and the log of g has this ticket more
@@ -35,6 +35,10 @@ module _ (l : Layout) where
   abbrev pub ClearBehind : ℕ → (ℕ → List ℕ) → Type 0
   ClearBehind t f = t + 1 < places l → isEmpty (ticketAt l f (t + 1)) ≡ true
 
+  pub length-before : (f : ℕ → List ℕ) (t : ℕ) → logEnd l f ≡ At t → logLength l f ≡ t
+  unfolding logLength whenFound
+  length-before f t end = rw end
+
   module _ (ticket : List ℕ) (t : ℕ) (f g : ℕ → List ℕ) (end : logEnd l f ≡ At t) (put : bytesAt l g ≡ at t ticket (bytesAt l f))
       (right : ticketSound (ticketOf ticket) ≡ true) (clear : ClearBehind t f) where
     here : ticketAt l g t ≡ ticketOf ticket
@@ -42,10 +46,6 @@ module _ (l : Layout) where
 
     elsewhere : (u : ℕ) → u ≢ t → ticketAt l g u ≡ ticketAt l f u
     elsewhere u d = ap (λ (b : ℕ → List ℕ). ticketOf (b u)) put ∙ ap ticketOf (at-other t ticket (bytesAt l f) u d)
-
-    length-before : logLength l f ≡ t
-    unfolding logLength whenFound
-    length-before = rw end
 
     -- neither it nor one before it is empty, and the next is
     full : (u : ℕ) → u < t + 1 → isEmpty (ticketAt l g u) ≡ false
@@ -65,7 +65,7 @@ module _ (l : Layout) where
     still-sound sound =
         rw longer
         (all-true (t + 1) (λ u. ticketSound (ticketAt l g u)) (λ u h. at-last u t (omega arith)
-        (λ b. ap ticketSound (elsewhere u (omega arith)) ∙ all-at _ _ sound u (rw length-before b))
+        (λ b. ap ticketSound (elsewhere u (omega arith)) ∙ all-at _ _ sound u (rw (length-before f t end) b))
         (λ q. rw q (ap ticketSound here ∙ right))))
 
     module _ (lot bag : ℕ) where
@@ -77,12 +77,12 @@ module _ (l : Layout) where
       latest-before : lastBelow t (λ u. isFor lot bag (ticketAt l g u)) ≡ latest l f lot bag
       unfolding latest
       latest-before =
-          rw length-before
+          rw (length-before f t end)
           (last-cong t (λ u. isFor lot bag (ticketAt l g u)) (λ u. isFor lot bag (ticketAt l f u)) (λ u h. ap (isFor lot bag) (elsewhere u (omega arith))))
 
       latest-low : (u : ℕ) → latest l f lot bag ≡ At u → u < t
       unfolding latest
-      latest-low u q = rw length-before at (last-at _ _ u q)
+      latest-low u q = rw (length-before f t end) at (last-at _ _ u q)
 
       stands : standing l g lot bag ≡ cond (isFor lot bag (ticketOf ticket)) (weightOf (ticketOf ticket)) (standing l f lot bag)
       unfolding standing whenFound

@@ -133,7 +133,7 @@ module _ (l : Layout) where
       pub usable : Usable l
       usable = record { within = within l (format-fresh l some narrow (f .images) (f .allowance) (f .isDone) .0); some = some; narrow = narrow }
 
-      start-holds : Holds l alive (start l f)
+      pub start-holds : Holds l alive (start l f)
       start-holds = fresh-inv l usable (start l f .images) (format-fresh l some narrow (f .images) (f .allowance) (f .isDone) .1)
 
     -- every chip is in place after the first list

@@ -1,17 +1,17 @@
 -- Document 02, 1, under demand 3: what is found is the book's, an addition that is done puts its ticket at the end of the book's log, and
--- one that is not leaves the log.
+-- one that is not leaves the log. Where additions alone write pages, the log is never refused and nothing stands behind its end.
 use Prim.Native.Nat.{ℕ, _*_, _≤_, _<_}
 use native.Mathlib.Nat.{mul-pos}
 use native.Mathlib.Omega.{arith}
 use mathlib.Core.Path.{_≡_, refl, sym, ap, _∙_}
 use mathlib.Core.Logic.{_≢_}
-use mathlib.Core.Bool.{true}
+use mathlib.Core.Bool.{true, false}
 use mathlib.Core.List.{List, [], _∷_, _++_}
 use lib.ListN.{length, replicate, length-replicate}
 use Rattle.ranges.specs.declared.Found.the-variants.{At}
 use Rattle.ranges.specs.Look.{whenFound}
 use Rattle.ranges.specs.Update.{at}
-use Rattle.ranges.proofs.Looks.{by-test, when-same}
+use Rattle.ranges.proofs.Looks.{by-test, both, when-same}
 use Rattle.ranges.proofs.Updates.{at-other}
 use Rattle.layout.specs.Layout.{Layout, noChip, chipBytes}
 use Rattle.layout.specs.Images.{Images}
@@ -20,11 +20,13 @@ use Rattle.steps.specs.declared.Counts.{Counts}
 use Rattle.steps.specs.Steps.{Step, reading}
 use Rattle.rules.specs.declared.Check.{Check}
 use Rattle.rules.specs.declared.Check.the-variants.{Passed, Failed}
+use Rattle.rules.specs.declared.Refusal.the-variants.{Tickets}
 use Rattle.rules.specs.declared.Reading.the-variants.{Done as ReadDone}
+use Rattle.rules.specs.declared.Finding.the-variants.{Done as FindDone}
 use Rattle.rules.specs.Tickets.{ticketBytes, ticketOf, ticketSound}
-use Rattle.rules.specs.Log.{fallsIn, bytesAt, logEnd, logSound, withTicket, contents, logReads, addSteps}
+use Rattle.rules.specs.Log.{fallsIn, bytesAt, logEnd, logSound, standing, withTicket, contents, logReads, addSteps}
 use Rattle.rules.specs.Refusals.{checked, imagesRows, pageRows, logRow, readRows, findRows, addRows}
-use Rattle.rules.specs.Calls.{ReadOutcome, readCall, findCall, addCall, Call, add-call, Verdict, done, cut, refused, outcome, verdict, ended}
+use Rattle.rules.specs.Calls.{ReadOutcome, readCall, findCall, addCall, Call, open-call, write-call, commit-call, collect-call, add-call, query-call, Verdict, done, cut, refused, outcome, verdict, ended}
 use Rattle.rules.specs.Book.{Book, completed, booked}
 use Rattle.rules.specs.Demand.{World, called, calledAll, chipTaken, allName, ReadsTheBook, FindsTheBook, Finished, start, AfterBothLists}
 use Rattle.rules.proofs.Soundness.Statements.{Usable}
@@ -34,8 +36,10 @@ use Rattle.rules.proofs.Data.Log.{SamePages, end-fits, page-fits, end-s
 use Rattle.rules.proofs.Data.NewTicket.{ClearBehind, Grown, grown}
 use Rattle.rules.proofs.Lists.CutRule.{verdictNumber}
 use Rattle.rules.proofs.Demand.Invariant.{Inv}
+use Rattle.rules.proofs.Demand.Alive.{call-inv}
 use Rattle.rules.proofs.Demand.Taken.{call-stays}
-use Rattle.rules.proofs.Demand.Events.{usable, first-holds, demand-3}
+use Rattle.rules.proofs.Demand.Events.{usable, start-holds, first-holds, demand-3}
+use Rattle.rules.proofs.Demand.OnlyAdditions.{isWrite, onlyAdds, Tidy, finished-tidy, tidy-behind, tidy-grown, refused-alone}
 
 module _ (l : Layout) where
   open Layout l using (N, W, S)
@@ -72,6 +76,11 @@ module _ (l : Layout) where
         book = reached f first .book;
       })
 
+  -- every question that names that chip is answered from the book's log, and none is refused
+  abbrev pub Answers : ℕ → World → Type 0
+  Answers lost x =
+      (lot bag : ℕ) → (n : Counts) × (findCall l (x .images) lost lot bag ≡ FindDone n (standing l (x .book) lot bag))
+
   pub record TicketsKept : Type 0 where
     -- a question is answered from the book's log, with no chip dead or any one
     pub finds : AfterBothLists l (FindsTheBook l)
@@ -81,6 +90,19 @@ module _ (l : Layout) where
     -- one that is cut or refused leaves the book
     pub keeps : (x : World) (lost : ℕ) (ticket : List ℕ) (a : ℕ) → addVerdict x lost ticket a ≢ done → afterAdd x lost ticket a .book ≡ x .book
     pub leaves : LeavesTheLog
+    -- where additions alone wrote pages, no ticket of the log breaks the rules, and nothing stands behind its end
+    pub tidy : (f : Finished l) (first : List Call) → onlyAdds first → Tidy l (reached f first .book)
+    -- so every question is answered, with no chip dead
+    pub answered : (f : Finished l) (first : List Call) → onlyAdds first → Answers noChip (reached f first)
+    -- and with any one
+    pub answered-taken : (f : Finished l) (first : List Call) → onlyAdds first → (c : ℕ) → c ≤ N → (bytes : List ℕ) → length bytes ≡ chipBytes l
+        → (second : List Call) → allName c second → Answers c (calledAll l second (chipTaken l c bytes (reached f first)))
+    -- and an addition that is done makes the log longer by its ticket, which stands
+    pub grows-always : (f : Finished l) (first : List Call) → onlyAdds first → (lost : ℕ) (ticket : List ℕ) (a : ℕ) → addVerdict (reached f first) lost ticket a ≡ done
+        → (t : ℕ) × (logEnd l (reached f first .book) ≡ At t) × Grown l ticket t (reached f first .book) (afterAdd (reached f first) lost ticket a .book)
+    -- and one that is refused with 11 is refused for its own ticket
+    pub refused-alone : (f : Finished l) (first : List Call) → onlyAdds first → (lost : ℕ) (ticket : List ℕ)
+        → checked (addRows l (reached f first .images) lost ticket) ≡ Failed Tickets → ticketSound (ticketOf ticket) ≡ false
 
   -- a read that is done passed rows 1 to 5, and gave what the page reads as
   read-done : (s : Images) (lost i : ℕ) (buffer : List ℕ) (n : Counts) (ys : List ℕ)
@@ -172,6 +194,38 @@ module _ (l : Layout) where
   unfolding called
   add-keeps x lost ticket a d = add-not-done lost ticket a (addVerdict x lost ticket a) d (x .book)
 
+  -- ---- where additions alone write pages
+
+  by-done : {P : Type 0} (v : Verdict) → (v ≡ done → P) → (v ≢ done → P) → P
+  by-done done is other = is refl
+  by-done cut is other = other (λ e. absurd (omega (arith, ap verdictNumber e)))
+  by-done refused is other = other (λ e. absurd (omega (arith, ap verdictNumber e)))
+
+  added-tidy : (ticket : List ℕ) (before after : Book) → Tidy l before → Added ticket before after → Tidy l after
+  added-tidy ticket before after tidy h =
+      tidy-grown l before tidy (h .place) (h .end) ticket after (h .tickets) (h .grows (tidy-behind l before tidy (h .place) (h .end)))
+
+  call-tidy : Within l → (call : Call) → isWrite call ≡ false → (x : World) → Inv l (x .images) (x .book) → Tidy l (x .book) → Tidy l (called l call x .book)
+  unfolding called booked
+  call-tidy w (open-call lost a) ok x f tidy = tidy
+  call-tidy w (write-call lost page xs a) ok x f tidy = both true refl ok
+  call-tidy w (commit-call lost j a) ok x f tidy = tidy
+  call-tidy w (collect-call lost c a) ok x f tidy = tidy
+  call-tidy w (add-call lost ticket a) ok x f tidy = by-done (addVerdict x lost ticket a)
+      (λ e. added-tidy ticket (x .book) (afterAdd x lost ticket a .book) tidy (add-done w lost ticket a x f e))
+      (λ d. rw (add-keeps x lost ticket a d) tidy)
+  call-tidy w (query-call q) ok x f tidy = tidy
+
+  calls-tidy : Usable l → (first : List Call) → onlyAdds first → (x : World) → Inv l (x .images) (x .book) → Tidy l (x .book) → Tidy l (calledAll l first x .book)
+  unfolding calledAll
+  calls-tidy u [] only x f tidy = tidy
+  calls-tidy u (call ∷ first) only x f tidy =
+      calls-tidy u first (only .1) (called l call x) (call-inv l u call x f) (call-tidy (u .within) call (only .0) x f tidy)
+
+  -- a question about a log that is sound is answered
+  answers : (c : ℕ) (x : World) → FindsTheBook l c x → logSound l (x .book) ≡ true → Answers c x
+  answers c x finds sound lot bag = rw sound at (finds lot bag)
+
   -- one call more; and calls that name the chip that is taken, which leave the book
   one-more : (first : List Call) (call : Call) (x : World) → calledAll l (first ++ (call ∷ [])) x ≡ called l call (calledAll l first x)
   unfolding calledAll
@@ -198,10 +252,33 @@ module _ (l : Layout) where
         ) at
         (found .oneChipTaken f (first ++ (add-call lost ticket a ∷ [])) c chip bytes whole second naming lot bag)
 
+    module _ (f : Finished l) (first : List Call) (only : onlyAdds first) where
+      kept-tidy : Tidy l (reached f first .book)
+      kept-tidy = calls-tidy (usable l some narrow f) first only (start l f) (start-holds l some narrow f) (finished-tidy l (usable l some narrow f .within))
+
+      taken-answers : (c : ℕ) → c ≤ N → (bytes : List ℕ) → length bytes ≡ chipBytes l
+          → (second : List Call) → allName c second → Answers c (calledAll l second (chipTaken l c bytes (reached f first)))
+      unfolding chipTaken
+      taken-answers c chip bytes whole second naming =
+          let y = chipTaken l c bytes (reached f first) in
+          answers c (calledAll l second y) (found .oneChipTaken f first c chip bytes whole second naming)
+          (rw (second-keeps (usable l some narrow f) c chip second naming y) (kept-tidy .sound))
+
     pub tickets-kept : TicketsKept
     tickets-kept = record {
       finds = found;
       adds = λ f first lost ticket a. add-done (usable l some narrow f .within) lost ticket a (reached f first) (first-holds l some narrow f first);
       keeps = add-keeps;
       leaves = left;
+      tidy = kept-tidy;
+      answered = λ f first only. answers noChip (reached f first) (found .noChipTaken f first) (kept-tidy f first only .sound);
+      answered-taken = taken-answers;
+      grows-always = λ f first only lost ticket a e.
+          let x = reached f first in
+          let h = add-done (usable l some narrow f .within) lost ticket a x (first-holds l some narrow f first) e in
+          (h .place, h .end, h .grows (tidy-behind l (x .book) (kept-tidy f first only) (h .place) (h .end)));
+      refused-alone = λ f first only lost ticket.
+          let x = reached f first in
+          let same = sound-same l (usable l some narrow f .within) (contents l (x .images) noChip) (x .book) (first-holds l some narrow f first .reads) in
+          refused-alone l (x .images) lost ticket (same ∙ kept-tidy f first only .sound);
     }

@@ -1,12 +1,16 @@
 -- The rows of a call: what it means that they pass, and rows behind other rows.
+use Prim.Native.Nat.{ℕ}
 use mathlib.Core.Path.{_≡_, refl, sym, ap}
-use mathlib.Core.Bool.{Bool, true, false}
+use mathlib.Core.Bool.{Bool, true, false, not, _&&_}
 use mathlib.Core.List.{List, [], _∷_, _++_}
+use lib.Dec.{eqb}
+use borrow.Author.Tests.{eq-eqb}
 use Rattle.ranges.proofs.Looks.{both}
+use Rattle.ranges.proofs.Tests.{and-right}
 use Rattle.rules.specs.declared.Refusal.{Refusal}
 use Rattle.rules.specs.declared.Check.{Check}
 use Rattle.rules.specs.declared.Check.the-variants.{Passed, Failed}
-use Rattle.rules.specs.Refusals.{Row, checked}
+use Rattle.rules.specs.Refusals.{Row, refusalNumber, checked}
 
 -- the cases of a check
 pub by-check {ℓ} : {P : Type ℓ} (k : Check) → (k ≡ Passed → P) → ((r : Refusal) → k ≡ Failed r → P) → P
@@ -44,6 +48,23 @@ pub below-failed : (above below : List Row) (n : Refusal) → checked above ≡ 
 below-failed [] below n e = not-passed n (sym e)
 below-failed ((true, r) ∷ above) below n e = below-failed above below n e
 below-failed ((false, r) ∷ above) below n e = e
+
+-- no row has the refusal of this number
+abbrev pub lacks : ℕ → List Row → Bool
+lacks n [] = true
+lacks n ((test, r) ∷ rows) = not (eqb (refusalNumber r) n) && lacks n rows
+
+abbrev failedWith : Check → ℕ
+failedWith Passed = 0
+failedWith (Failed r) = refusalNumber r
+
+-- so it comes from the rows below
+pub from-below : (above below : List Row) (n : Refusal) → lacks (refusalNumber n) above ≡ true → checked (above ++ below) ≡ Failed n
+    → (checked above ≡ Passed) × (checked below ≡ Failed n)
+from-below [] below n h e = (refl, e)
+from-below ((true, r) ∷ above) below n h e = from-below above below n (and-right (not (eqb (refusalNumber r) (refusalNumber n))) (lacks (refusalNumber n) above) h) e
+from-below ((false, r) ∷ above) below n h e =
+    both false (rw (eq-eqb (refusalNumber r) (refusalNumber n) (ap failedWith e)) at h) refl
 
 -- and where all pass, both do
 pub both-passed : (above below : List Row) → checked (above ++ below) ≡ Passed → (checked above ≡ Passed) × (checked below ≡ Passed)
