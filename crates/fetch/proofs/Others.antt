@@ -41,41 +41,20 @@ record-is g xs j (is, small) h = is ∙ ended-same (record-sound (layoutOf g) (r
 -- ---- the others that a page is rebuilt from
 
 -- by the tests that the code makes: no member that goes in, an old page, or a current one
-module _ (l : Layout) (inside : Bool) (m : ℕ) (r : Record) (i : ℕ) {set : Bool} (told : set ≡ bit r i) where
-  pub other-none : eqb i m || (inside && not set) ≡ true → others l inside m r i ≡ none l
-  unfolding othersInside othersUnderParity underParity
-  other-none = rw told (one-of inside (eqb i m) (bit r i))
-    where
-      one-of : (b s t : Bool) → s || (b && not t) ≡ true → cond b (cond (t && not s) (r .current i) (none l)) (cond s (none l) (cond t (r .old i) (r .current i))) ≡ none l
-      one-of true true true e = refl
-      one-of true true false e = refl
-      one-of true false true e = both false e refl
-      one-of true false false e = refl
-      one-of false true t e = refl
-      one-of false false t e = both false e refl
-
-  pub other-old : eqb i m || (inside && not set) ≡ false → set && not inside ≡ true → others l inside m r i ≡ r .old i
-  unfolding othersInside othersUnderParity underParity
-  other-old = rw told (one-of inside (eqb i m) (bit r i))
-    where
-      one-of : (b s t : Bool) → s || (b && not t) ≡ false → t && not b ≡ true → cond b (cond (t && not s) (r .current i) (none l)) (cond s (none l) (cond t (r .old i) (r .current i))) ≡ r .old i
-      one-of false false true e h = refl
-      one-of false false false e h = both false h refl
-      one-of false true t e h = both true refl e
-      one-of true s true e h = both false h refl
-      one-of true s false e h = both false h refl
-
-  pub other-current : eqb i m || (inside && not set) ≡ false → set && not inside ≡ false → others l inside m r i ≡ r .current i
-  unfolding othersInside othersUnderParity underParity
-  other-current = rw told (one-of inside (eqb i m) (bit r i))
-    where
-      one-of : (b s t : Bool) → s || (b && not t) ≡ false → t && not b ≡ false → cond b (cond (t && not s) (r .current i) (none l)) (cond s (none l) (cond t (r .old i) (r .current i))) ≡ r .current i
-      one-of true false true e h = refl
-      one-of true false false e h = both true refl e
-      one-of true true t e h = both true refl e
-      one-of false false true e h = both true refl h
-      one-of false false false e h = refl
-      one-of false true t e h = both true refl e
+pub others-by : (l : Layout) (inside : Bool) (m : ℕ) (r : Record) (i : ℕ)
+    → others l inside m r i ≡ cond (eqb i m || (inside && not (bit r i))) (none l) (cond (bit r i && not inside) (r .old i) (r .current i))
+unfolding othersInside othersUnderParity underParity
+others-by l inside m r i = one-of inside (eqb i m) (bit r i)
+  where
+    one-of : (b s t : Bool) → cond b (cond (t && not s) (r .current i) (none l)) (cond s (none l) (cond t (r .old i) (r .current i)))
+        ≡ cond (s || (b && not t)) (none l) (cond (t && not b) (r .old i) (r .current i))
+    one-of true true true = refl
+    one-of true true false = refl
+    one-of true false true = refl
+    one-of true false false = refl
+    one-of false true t = refl
+    one-of false false true = refl
+    one-of false false false = refl
 
 -- a sound record's are those of pages
 pub others-fit : (l : Layout) → Within l → (inside : Bool) (m : ℕ) (r : Record) → RecordSound l r → (i : ℕ) → i < l .N → Numbered l (others l inside m r i)

@@ -4,7 +4,7 @@ use native.Mathlib.Numerals.{add-one}
 use native.Mathlib.Omega.{arith}
 use mathlib.Core.Path.{_≡_, refl, sym, ap, _∙_}
 use mathlib.Core.Logic.{_≢_}
-use mathlib.Core.Bool.{Bool, true, false}
+use mathlib.Core.Bool.{Bool, true}
 use mathlib.Core.List.{List}
 use lib.ListN.{length}
 use lib.Dec.{eqb}
@@ -13,7 +13,7 @@ use Rattle.ranges.specs.Look.{sumBelow}
 use Rattle.bytes.specs.Xor.{_⊕_, xorBelow}
 use Rattle.ranges.proofs.Looks.{by-test}
 use Rattle.ranges.proofs.Sums.{sum-cong}
-use Rattle.bytes.proofs.Xors.{xors-assoc, xor-nil-r, length-xors-left, xors-zeros-l, xor-below-cong}
+use Rattle.bytes.proofs.Xors.{xors-assoc, xor-nil-r, xors-zeros-l, xor-below-cong}
 use Rattle.layout.specs.declared.Geometry.{Geometry}
 use Rattle.layout.specs.Layout.{Layout, layoutOf, none}
 use Rattle.layout.specs.Rotation.{memberChip}
@@ -27,10 +27,6 @@ use Rattle.fetch.specs.declared.Got.{Got}
 use Rattle.fetch.specs.Into.{begun, Into}
 
 -- ---- XOR over the members
-
--- a page XORed into one of the same length leaves that length
-pub as-long : {w : ℕ} (xs zs : List ℕ) {ys : List ℕ} → ys ≡ xs ⊕ zs → length xs ≡ w → length zs ≡ w → length ys ≡ w
-as-long xs zs e h k = rw e (length-xors-left xs zs (omega arith) ∙ h)
 
 -- a page XORed in as it stands: there is none, or there is one
 module _ (l : Layout) (y : ℕ → ℕ → Page) (c p : ℕ) (before : List ℕ) where

@@ -1,4 +1,4 @@
--- What a fetch makes of the page that it is XORed into, and answers.
+-- What a fetch makes of the page that it is XORed into, and answers; and what a page is rebuilt from, as the code goes over it.
 use Prim.Native.Nat.{ℕ, _≤_, _<_}
 use mathlib.Core.Path.{_≡_}
 use mathlib.Core.Bool.{Bool, false, not, cond, _&&_}
@@ -26,7 +26,7 @@ RoleFits g Parity = Unit
 abbrev pub begun : Bool → List ℕ → List ℕ
 begun fresh xs = cond fresh (replicate (length xs) 0) xs
 
--- the pages that member m is rebuilt from, besides slot or parity page: those of the others inside the bitmap, or under the parity
+-- the members' pages that go into a rebuilt one, member m left out: those inside the bitmap, or those under the parity
 abbrev pub others : Layout → Bool → ℕ → Record → ℕ → ℕ
 others l inside m r i = cond inside (othersInside l m r i) (othersUnderParity l m r i)
 

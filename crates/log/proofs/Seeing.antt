@@ -1,5 +1,5 @@
 -- Tickets looked at one after the other: how many are sound, and what stands after them.
-use Prim.Native.Nat.{ℕ, zero, suc, _+_, _-_, _*_, _%_, _≤_, _<_}
+use Prim.Native.Nat.{ℕ, zero, suc, _+_, _-_, _*_, _/_, _%_, _≤_, _<_}
 use native.Mathlib.Nat.{add-zero, add-suc}
 use native.Mathlib.Numerals.{add-one}
 use native.Mathlib.Omega.{arith}
@@ -13,8 +13,8 @@ use borrow.Author.Tests.{eqb-true, eq-eqb, ne-eqb, leb-true, le-leb, not-true}
 use Rattle.ranges.specs.declared.Found.{Found}
 use Rattle.ranges.specs.declared.Found.the-variants.{At, Nothing}
 use Rattle.ranges.specs.Look.{allBelow, lastBelow, whenFound}
-use Rattle.ranges.proofs.Looks.{by-test, by-order, by-same, all-true, all-at, last-at}
-use Rattle.ranges.proofs.Tests.{and-both, and-left, unless-equal, under, differ}
+use Rattle.ranges.proofs.Looks.{by-test, by-order, by-same, both, all-true, all-at, last-at}
+use Rattle.ranges.proofs.Tests.{and-both, and-left, unless-equal, under}
 use Rattle.ranges.proofs.Tallies.{same-tests}
 use Rattle.bytes.specs.Number.{number}
 use Rattle.bytes.specs.Units.{part, unit}
@@ -128,23 +128,41 @@ latest-fits {page} {lot} {bag} {r} p e =
     let last : lastBelow (r .kept) (λ t. isFor lot bag (ticketsIn page t)) ≡ At (r .latest) = sym (rw e at (p .seen .told)) in
     omega (arith, last-at (r .kept) (λ t. isFor lot bag (ticketsIn page t)) (r .latest) last, p .few)
 
--- kind and the zero byte behind it, in the lower half of the word
-first-two : (page : List ℕ) (a : ℕ) → a + 4 ≤ length page → getD page a 0 < 256 → getD page (a + 1) 0 < 256
-    → number (part a 4 page) % 65536 ≡ getD page a 0 + 256 * getD page (a + 1) 0
-first-two page a fits low high = rw (number-four page a fits, number-two page a (omega arith)) (omega arith)
+-- kind and the zero byte behind it in the lower half of the word, the bag in the upper
+module _ (page : List ℕ) (a : ℕ) (fits : a + 4 ≤ length page) (low : getD page a 0 < 256) (high : getD page (a + 1) 0 < 256) where
+  first-two : number (part a 4 page) % 65536 ≡ getD page a 0 + 256 * getD page (a + 1) 0
+  first-two = rw (number-four page a fits, number-two page a (omega arith)) (omega arith)
 
--- what the short look compares: the two as one number, the weights, and the lots
-pub record PlainWords (first gross tare its lot : ℕ) : Type 0 where
+  last-two : number (part a 4 page) / 65536 ≡ number (part (a + 2) 2 page)
+  last-two = rw (number-four page a fits, number-two page a (omega arith)) (omega arith)
+
+-- what the first look compares: kind and zero byte as one number, the weights, lot and bag
+pub record PlainWords (first gross tare its whose lot bag : ℕ) : Type 0 where
   pub kind : first ≢ 1 → (first ≡ 2) × (gross ≡ 0)
   pub weights : tare ≤ gross
-  pub other : its ≢ lot
+  pub other : its ≡ lot → whose ≢ bag
 
-module _ (t : Ticket) (first lot : ℕ) (two : first ≡ t .kind + 256 * t .blank) where
-  words-say : PlainWords first (t .gross) (t .tare) (t .lot) lot → ticketSound t && not (eqb (t .lot) lot) ≡ true
+-- of two pairs of numbers one is of different ones
+pub one-differs : (a b c d : ℕ) → not (eqb a b) || not (eqb c d) ≡ true → a ≡ b → c ≢ d
+one-differs a b c d t e q = both false (rw (eq-eqb a b e, eq-eqb c d q) at t) refl
+
+pub differs-one : (a b c d : ℕ) → (a ≡ b → c ≢ d) → not (eqb a b) || not (eqb c d) ≡ true
+differs-one a b c d h = by-same a b (λ e. rw (eq-eqb a b e, ne-eqb c d (h e))) (λ n. rw (ne-eqb a b n))
+
+not-for : (t : Ticket) (lot bag : ℕ) → (t .lot ≡ lot → t .bag ≢ bag) → isFor lot bag t ≡ false
+not-for t lot bag h = by-same (t .lot) lot
+    (λ e. rw (eq-eqb (t .lot) lot e, ne-eqb (t .bag) bag (h e)))
+    (λ n. rw (ne-eqb (t .lot) lot n))
+
+for-none : (t : Ticket) (lot bag : ℕ) → isFor lot bag t ≡ false → t .lot ≡ lot → t .bag ≢ bag
+for-none t lot bag h e q = both (isFor lot bag t) (rw (eq-eqb (t .lot) lot e, eq-eqb (t .bag) bag q)) h
+
+module _ (t : Ticket) (first lot bag : ℕ) (two : first ≡ t .kind + 256 * t .blank) where
+  words-say : PlainWords first (t .gross) (t .tare) (t .lot) (t .bag) lot bag → ticketSound t && not (isFor lot bag t) ≡ true
   unfolding ticketSound
   words-say h =
       let tare = le-leb (t .tare) (t .gross) (h .weights) in
-      let other = ne-eqb (t .lot) lot (h .other) in
+      let other = not-for t lot bag (h .other) in
       by-same first 1
       (λ e.
       let kind : t .kind ≡ 1 = omega arith in
@@ -156,7 +174,7 @@ module _ (t : Ticket) (first lot : ℕ) (two : first ≡ t .kind + 256 * t .blan
       let none = eq-eqb (t .tare) 0 (omega (arith, h .weights, h .kind d .1)) in
       rw (kind, blank, eq-eqb (t .gross) 0 (h .kind d .1), none, tare, other))
 
-  words-said : ticketSound t && not (eqb (t .lot) lot) ≡ true → PlainWords first (t .gross) (t .tare) (t .lot) lot
+  words-said : ticketSound t && not (isFor lot bag t) ≡ true → PlainWords first (t .gross) (t .tare) (t .lot) (t .bag) lot bag
   unfolding ticketSound
   words-said e =
       let (sound, other) = and-both _ _ e in
@@ -169,42 +187,47 @@ module _ (t : Ticket) (first lot : ℕ) (two : first ≡ t .kind + 256 * t .blan
             let two-is = unless-equal (t .kind) 1 (eqb (t .kind) 2) kinds (λ q. d (omega arith)) in
             (omega (arith, eqb-true (t .kind) 2 two-is), eqb-true (t .gross) 0 (and-left _ _ (under (eqb (t .kind) 2) _ weights two-is)));
         weights = leb-true (t .tare) (t .gross) tare;
-        other = differ (t .lot) lot other;
+        other = for-none t lot bag (not-true _ other);
       }
 
 -- the words of ticket i
-abbrev WordsAt : List ℕ → ℕ → ℕ → Type 0
-WordsAt page i lot =
-    PlainWords (number (part (i * 16) 4 page) % 65536) (number (part (i * 16 + 8) 4 page)) (number (part (i * 16 + 12) 4 page)) (number (part (i * 16 + 4) 4 page)) lot
+abbrev WordsAt : List ℕ → ℕ → ℕ → ℕ → Type 0
+WordsAt page i lot bag =
+    PlainWords (number (part (i * 16) 4 page) % 65536) (number (part (i * 16 + 8) 4 page)) (number (part (i * 16 + 12) 4 page)) (number (part (i * 16 + 4) 4 page))
+    (number (part (i * 16) 4 page) / 65536) lot bag
 
-module _ (page : List ℕ) (i lot : ℕ) (fits : i * 16 + 16 ≤ length page) (low : getD page (i * 16) 0 < 256) (high : getD page (i * 16 + 1) 0 < 256) where
-  plain-is : WordsAt page i lot → isPlain page lot i ≡ true
+module _ (page : List ℕ) (i lot bag : ℕ) (fits : i * 16 + 16 ≤ length page) (low : getD page (i * 16) 0 < 256) (high : getD page (i * 16 + 1) 0 < 256) where
+  plain-is : WordsAt page i lot bag → isPlain page lot bag i ≡ true
   unfolding isPlain
-  plain-is h = rw (sym (ticket-is page i)) (words-say _ _ lot (first-two page (i * 16) (omega arith) low high) h)
+  plain-is h =
+      rw (sym (ticket-is page i))
+      (words-say _ _ lot bag (first-two page (i * 16) (omega arith) low high) (rw (last-two page (i * 16) (omega arith) low high) at h))
 
-  plain-says : isPlain page lot i ≡ true → WordsAt page i lot
+  plain-says : isPlain page lot bag i ≡ true → WordsAt page i lot bag
   unfolding isPlain
-  plain-says e = words-said _ _ lot (first-two page (i * 16) (omega arith) low high) (rw (sym (ticket-is page i)) at e)
+  plain-says e =
+      rw (last-two page (i * 16) (omega arith) low high)
+      (words-said _ _ lot bag (first-two page (i * 16) (omega arith) low high) (rw (sym (ticket-is page i)) at e))
 
   -- a test that says so of the words
-  pub plain-by : (test : Bool) → (test ≡ true → WordsAt page i lot) → (WordsAt page i lot → test ≡ true) → test ≡ isPlain page lot i
-  plain-by test there back = same-tests test (isPlain page lot i) (λ e. plain-is (there e)) (λ e. back (plain-says e))
+  pub plain-by : (test : Bool) → (test ≡ true → WordsAt page i lot bag) → (WordsAt page i lot bag → test ≡ true) → test ≡ isPlain page lot bag i
+  plain-by test there back = same-tests test (isPlain page lot bag i) (λ e. plain-is (there e)) (λ e. back (plain-says e))
 
 -- whether all tickets are plain so far
-pub plain-none : (page : List ℕ) (lot : ℕ) → true ≡ allBelow 0 (isPlain page lot)
+pub plain-none : (page : List ℕ) (lot bag : ℕ) → true ≡ allBelow 0 (isPlain page lot bag)
 unfolding allBelow
-plain-none page lot = refl
+plain-none page lot bag = refl
 
-pub plain-more : (page : List ℕ) (lot i : ℕ) {plain one : Bool} → plain ≡ allBelow i (isPlain page lot) → one ≡ isPlain page lot i
-    → plain && one ≡ allBelow (i + 1) (isPlain page lot)
+pub plain-more : (page : List ℕ) (lot bag i : ℕ) {plain one : Bool} → plain ≡ allBelow i (isPlain page lot bag) → one ≡ isPlain page lot bag i
+    → plain && one ≡ allBelow (i + 1) (isPlain page lot bag)
 unfolding allBelow
-plain-more page lot i e f = rw (add-one, e, f)
+plain-more page lot bag i e f = rw (add-one, e, f)
 
 -- plain tickets, of which none is for the lot and bag
-pub seen-plain : (page : List ℕ) (lot bag n : ℕ) → ((t : ℕ) → t < n → isPlain page lot t ≡ true) → Seen (ticketsIn page) lot bag n false 0
+pub seen-plain : (page : List ℕ) (lot bag n : ℕ) → ((t : ℕ) → t < n → isPlain page lot bag t ≡ true) → Seen (ticketsIn page) lot bag n false 0
 unfolding allBelow lastBelow isPlain
 seen-plain page lot bag zero h = seen-none (ticketsIn page) lot bag
 seen-plain page lot bag (suc n) h =
-    let (sound, other) = and-both (ticketSound (ticketsIn page n)) (not (eqb (ticketsIn page n .lot) lot)) (h n (omega arith)) in
+    let (sound, other) = and-both (ticketSound (ticketsIn page n)) (not (isFor lot bag (ticketsIn page n))) (h n (omega arith)) in
     let s = seen-plain page lot bag n (λ t b. h t (omega arith)) in
-    record { sound = rw (s .sound, sound); told = s .told ∙ rw (not-true (eqb (ticketsIn page n .lot) lot) other) }
+    record { sound = rw (s .sound, sound); told = s .told ∙ rw (not-true (isFor lot bag (ticketsIn page n)) other) }

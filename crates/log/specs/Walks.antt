@@ -4,7 +4,6 @@ use mathlib.Core.Path.{_≡_}
 use mathlib.Core.Bool.{Bool, true, false, not, cond, _&&_}
 use mathlib.Core.List.{List}
 use lib.ListN.{length}
-use lib.Dec.{eqb}
 use Rattle.ranges.specs.declared.Found.the-variants.{At, Nothing}
 use Rattle.ranges.specs.Look.{allBelow, lastBelow}
 use Rattle.bytes.specs.Units.{unit}
@@ -43,9 +42,9 @@ walkOf l s lost lot bag =
 abbrev pub ticketsIn : List ℕ → ℕ → Ticket
 ticketsIn page t = ticketOf (unit ticketBytes t page)
 
--- ticket t of a page is sound and of another lot
-unfoldable pub isPlain : List ℕ → ℕ → ℕ → Bool
-isPlain page lot t = ticketSound (ticketsIn page t) && not (eqb (ticketsIn page t .lot) lot)
+-- ticket t of a page is sound and not for the lot and bag
+unfoldable pub isPlain : List ℕ → ℕ → ℕ → ℕ → Bool
+isPlain page lot bag t = ticketSound (ticketsIn page t) && not (isFor lot bag (ticketsIn page t))
 
 -- of the tickets x 0, x 1, .. the first n are sound; whether some of them are for the lot and bag, and which is the latest
 pub record Seen (x : ℕ → Ticket) (lot bag n : ℕ) (found : Bool) (latest : ℕ) : Type 0 where

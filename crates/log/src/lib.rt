@@ -103,32 +103,33 @@ struct Shown {
     latest: usize,
 }
 
-// Whether ticket i of a page is sound and of another lot. It is looked at in words, without a branch, so that many are looked at in one go.
-fn is_plain(page: &[u8], i: usize, lot: u32) -> bool
+// Whether ticket i of a page is sound and not for the lot and bag. It is looked at in words, without a branch, so that many are looked at in one go.
+fn is_plain(page: &[u8], i: usize, lot: u32, bag: u32) -> bool
     requires { ⌜ i * ticketBytes + ticketBytes ≤ length (now page) ⌝ }
-    ensures { λ r. ⌜ r ≡ isPlain (now (page .entry)) lot i ⌝ }
+    ensures { λ r. ⌜ r ≡ isPlain (now (page .entry)) lot bag i ⌝ }
 {
     let a = i * TICKET;
-    // kind, and behind it the zero byte
-    let kind = word(page, a) % 65536;
+    // kind, the zero byte, and behind them the bag
+    let first = word(page, a);
+    let kind = first % 65536;
     let gross = word(page, a + 8);
     ((kind == 1) | ((kind == 2) & (gross == 0)))
         & (word(page, a + 12) <= gross)
-        & (word(page, a + 4) != lot)
+        & ((word(page, a + 4) != lot) | (first / 65536 != bag))
 }
 
 // Whether all tickets of a page are, as on nearly all pages of a log.
-fn all_plain(page: &[u8], lot: u32) -> bool
-    ensures { λ r. ⌜ r ≡ allBelow (length (now (page .entry)) / ticketBytes) (isPlain (now (page .entry)) lot) ⌝ }
+fn all_plain(page: &[u8], lot: u32, bag: u32) -> bool
+    ensures { λ r. ⌜ r ≡ allBelow (length (now (page .entry)) / ticketBytes) (isPlain (now (page .entry)) lot bag) ⌝ }
 {
     let per_page = page.len() / TICKET;
     // one ticket takes less than to begin a loop over many
     if per_page == 1 {
-        return is_plain(page, 0, lot);
+        return is_plain(page, 0, lot, bag);
     }
     let mut plain = true;
     for i in 0..per_page {
-        plain = plain & is_plain(page, i, lot);
+        plain = plain & is_plain(page, i, lot, bag);
     }
     plain
 }
@@ -138,7 +139,7 @@ fn look_at(page: &[u8], lot: u32, bag: u16) -> Shown
     ensures { λ r. ⌜ PageShows (now (page .entry)) lot bag r ⌝ }
 {
     let per_page = page.len() / TICKET;
-    if all_plain(page, lot) {
+    if all_plain(page, lot, bag as u32) {
         return Shown {
             kept: per_page,
             ended: true,

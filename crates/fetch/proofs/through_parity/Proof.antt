@@ -3,7 +3,6 @@ use Prim.Native.Nat.{ℕ, _+_}
 use native.Mathlib.Omega.{arith}
 use mathlib.Core.Path.{_≡_, ap, ap₂, _∙_}
 use mathlib.Core.Bool.{false}
-use mathlib.Core.List.{List}
 use denote.Ref.{now}
 use borrow.Author.Needs.{needs}
 use Rattle.bytes.specs.Xor.{_⊕_}
@@ -14,7 +13,7 @@ use Rattle.layout.specs.Record.{recordAt}
 use Rattle.layout.proofs.Limits.{within}
 use Rattle.rules.specs.Fetch.{Fetched, Feed, itself, gathered}
 use Rattle.rules.proofs.Soundness.RecordChecks.{record-sound}
-use Rattle.fetch.specs.Into.{begun, others, firstIn, leftOut}
+use Rattle.fetch.specs.Into.{begun, others, firstIn}
 use Rattle.fetch.proofs.Others.{first-fits, full-fetched}
 use Rattle.fetch.proofs.through_parity.Statement.{statement}
 use Rattle.fetch.proofs.through_parity.Tie as tie

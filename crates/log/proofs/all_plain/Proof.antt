@@ -11,24 +11,24 @@ use Rattle.log.proofs.all_plain.Statement.{statement}
 use Rattle.log.proofs.all_plain.Tie as tie
 
 abbrev Inv-loop : tie.InvT-loop
-Inv-loop page lot perPage plain₀ i₀ plain i = (i ≤ perPage) × (plain ≡ allBelow i (isPlain page lot))
+Inv-loop page lot bag perPage plain₀ i₀ plain i = (i ≤ perPage) × (plain ≡ allBelow i (isPlain page lot bag))
 
 abbrev μ-loop : tie.MeasureT-loop
-μ-loop page lot perPage plain₀ i₀ plain i = perPage - i
+μ-loop page lot bag perPage plain₀ i₀ plain i = perPage - i
 
 returns : tie.Need-returns Inv-loop μ-loop
 returns c =
     let a = c .before .before .before .args in
-    rw (c .before .if1 .taken) (plain-more (a .page .now) (a .lot) 0 (plain-none (a .page .now) (a .lot)) (c .is-plain .ensures))
+    rw (c .before .if1 .taken) (plain-more (a .page .now) (a .lot) (a .bag) 0 (plain-none (a .page .now) (a .lot) (a .bag)) (c .is-plain .ensures))
 
 loop-holds : tie.Need-loop-holds Inv-loop μ-loop
-loop-holds c = let a = c .before .before .args in (omega arith, plain-none (a .page .now) (a .lot))
+loop-holds c = let a = c .before .before .args in (omega arith, plain-none (a .page .now) (a .lot) (a .bag))
 
 loop-again : tie.Need-loop-again Inv-loop μ-loop
 loop-again c =
     let a = c .before .before .before .before .before .args in
     let l = c .before .before .loop in
-    (omega arith, plain-more (a .page .now) (a .lot) (l .i) (l .inv .1) (c .is-plain2 .ensures))
+    (omega arith, plain-more (a .page .now) (a .lot) (a .bag) (l .i) (l .inv .1) (c .is-plain2 .ensures))
 
 returns-2 : tie.Need-returns-2 Inv-loop μ-loop
 returns-2 c =

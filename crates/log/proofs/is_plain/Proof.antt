@@ -3,8 +3,8 @@
 use Prim.Native.Nat.{_+_, _*_}
 use borrow.Author.Needs.{needs}
 use borrow.Author.Tests.{eqb-true, eq-eqb, leb-true, le-leb}
-use Rattle.ranges.proofs.Tests.{and-both, both-and, unless-equal, unless-equal-by, differ, differ-by}
-use Rattle.log.proofs.Seeing.{plain-by}
+use Rattle.ranges.proofs.Tests.{and-both, both-and, unless-equal, unless-equal-by}
+use Rattle.log.proofs.Seeing.{plain-by, one-differs, differs-one}
 use Rattle.log.proofs.is_plain.Statement.{statement}
 use Rattle.log.proofs.is_plain.Tie as tie
 
@@ -17,7 +17,7 @@ returns c =
     let gross-is = c .before .before .word2 .ensures in
     let tare-is = c .before .word3 .ensures in
     let lot-is = c .word4 .ensures in
-    plain-by (s .args .page .now) i (s .args .lot) (s .pre) (byte (i * 16) .fits) (byte (i * 16 + 1) .fits) _
+    plain-by (s .args .page .now) i (s .args .lot) (s .args .bag) (s .pre) (byte (i * 16) .fits) (byte (i * 16 + 1) .fits) _
     (rw (first-is, gross-is, tare-is, lot-is)
     (λ e.
     let both = and-both _ _ e in
@@ -25,13 +25,13 @@ returns c =
     record {
       kind = λ d. let two = and-both _ _ (unless-equal _ _ _ (front .0) d) in (eqb-true _ _ (two .0), eqb-true _ _ (two .1));
       weights = leb-true _ _ (front .1);
-      other = differ _ _ (both .1);
+      other = one-differs _ _ _ _ (both .1);
     }))
     (rw (first-is, gross-is, tare-is, lot-is)
     (λ h.
     both-and
     (both-and (unless-equal-by _ _ _ (λ d. both-and (eq-eqb _ _ (h .kind d .0)) (eq-eqb _ _ (h .kind d .1)))) (le-leb _ _ (h .weights)))
-    (differ-by _ _ (h .other))))
+    (differs-one _ _ _ _ (h .other))))
 
 pub is-plain-spec : {M : Type 1} → statement M
 is-plain-spec =
