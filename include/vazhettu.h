@@ -66,8 +66,9 @@ struct vazhettu_geometry {
 #define VAZHETTU_SLOTS_LEN(w, m) (((size_t)(m) + 1) * (size_t)(w))
 
 /*
- * What a call answers. A call that is refused has counts of zero and has changed nothing, its buffer or data included. A call
- * that is cut has the counts of the stores that it made, and an add those of the log besides.
+ * What a call answers; a read and a find answer these numbers first, and more behind them. A call that is refused has
+ * counts of zero and has changed nothing, its buffer or data included. A call that is cut has the counts of the stores
+ * that it made, and an add those of the log besides.
  */
 struct vazhettu_report {
     uint64_t status;   /* VAZHETTU_DONE, VAZHETTU_CUT, or the refusal */
@@ -160,12 +161,42 @@ struct vazhettu_report vazhettu_open(struct vazhettu_geometry g, uint8_t *chips,
                                      uint64_t allowance);
 
 /*
- * Fills the buffer, of w bytes, with logical page `page`, below n * s: zeros where it was never written, and rebuilt from slots
- * and other chips where its own is named as lost. Makes no store, and works while a collection is under way.
+ * The origin of a page: how it was got. A settlement desk prints it beside a weight, to say whether that came off a
+ * chip or was rebuilt. A read and a find carry one, an add does not.
  */
-struct vazhettu_report vazhettu_read(struct vazhettu_geometry g, const uint8_t *chips, size_t chips_len,
-                                     const uint8_t *records, size_t records_len, const uint8_t *slots, size_t slots_len,
-                                     uint64_t lost, uint64_t page, uint8_t *buffer, size_t buffer_len);
+enum {
+    /* The page was never written, and is zeros; also where its chip is lost. */
+    VAZHETTU_UNWRITTEN = 0,
+    /* The page was read off its own chip. */
+    VAZHETTU_DIRECT = 1,
+    /* Its chip is lost, and it was rebuilt through the partial parity of its stripe, which is in a slot. */
+    VAZHETTU_PARTIAL = 2,
+    /* Its chip is lost, and it was rebuilt through the full parity of its stripe, which is on another chip. */
+    VAZHETTU_FULL = 3
+};
+
+/*
+ * What a read answers: the numbers of a report, of which programs, erases and stores are always zero, and the origin
+ * of its page.
+ */
+struct vazhettu_read_report {
+    uint64_t status;
+    uint64_t reads;
+    uint64_t programs;
+    uint64_t erases;
+    uint64_t stores;
+    uint64_t origin; /* VAZHETTU_UNWRITTEN to VAZHETTU_FULL; 0 where the read is refused */
+};
+
+/*
+ * Fills the buffer, of w bytes, with logical page `page`, below n * s: zeros where it was never written, and rebuilt from slots
+ * and other chips where its own is named as lost. Makes no store, and works while a collection is under way. The
+ * origin says which of these it was.
+ */
+struct vazhettu_read_report vazhettu_read(struct vazhettu_geometry g, const uint8_t *chips, size_t chips_len,
+                                          const uint8_t *records, size_t records_len, const uint8_t *slots,
+                                          size_t slots_len, uint64_t lost, uint64_t page, uint8_t *buffer,
+                                          size_t buffer_len);
 
 /*
  * Writes the w bytes to logical page `page`, below n * s. Once done, the page reads as these bytes and every other page as
@@ -241,7 +272,10 @@ struct vazhettu_report vazhettu_add(struct vazhettu_geometry g, uint8_t *chips, 
                                     size_t records_len, uint8_t *slots, size_t slots_len, uint64_t lost, const uint8_t *ticket,
                                     size_t ticket_len, uint64_t allowance);
 
-/* What a find answers: the numbers of a report, of which programs, erases and stores are always zero, and what stands. */
+/*
+ * What a find answers: the numbers of a report, of which programs, erases and stores are always zero, what stands, and
+ * an origin.
+ */
 struct vazhettu_find_report {
     uint64_t status;
     uint64_t reads;
@@ -251,6 +285,7 @@ struct vazhettu_find_report {
     uint64_t standing; /* 1 where a weight stands; else 0, and so are gross and tare */
     uint64_t gross;    /* in grams */
     uint64_t tare;     /* in grams */
+    uint64_t origin;   /* VAZHETTU_UNWRITTEN to VAZHETTU_FULL; 0 where the find is refused */
 };
 
 /*
@@ -258,6 +293,10 @@ struct vazhettu_find_report {
  * there is none. Makes no store, and works with a chip lost and while a collection is under way. It counts the reads of each page
  * up to and including the one with the log's end once, of all pages where the log is full. Lot and bag are of 32 and 16 bits: C
  * makes larger numbers fit without a word.
+ *
+ * Where a weight stands, the origin is that of the page with its ticket, whatever those of other pages are. Where
+ * nothing stands, it is the greatest of the pages up to and including the one with the log's end, of all pages where
+ * the log is full: if it is below VAZHETTU_PARTIAL, nothing was rebuilt to know this.
  */
 struct vazhettu_find_report vazhettu_find(struct vazhettu_geometry g, const uint8_t *chips, size_t chips_len,
                                           const uint8_t *records, size_t records_len, const uint8_t *slots, size_t slots_len,
@@ -279,6 +318,9 @@ struct vazhettu_find_report vazhettu_find(struct vazhettu_geometry g, const uint
  *     vazhettu_find(STORE, 0, 7, 1);                                      standing 0: withdrawn
  *     vazhettu_find(STORE, 0, 7, 2);                                      standing 1, gross 59870, tare 140
  *     vazhettu_find(STORE, 0, 7, 3);                                      standing 0: not in the log
+ *
+ * With n = 4 and w = 16 bag 2 is in page 1, on chip 1, and the origin is VAZHETTU_DIRECT. That of the other two finds
+ * is VAZHETTU_PARTIAL: page 0 was rebuilt to know that nothing stands.
  */
 
 #ifdef __cplusplus

@@ -99,12 +99,18 @@ fn breaks_rules(ticket: &[u8]) -> bool {
     }
 }
 
-/// The price book: "It keeps W bytes for each logical page below N × S."
+/// The price book: "It keeps W bytes for each logical page below N × S." Beside it, the pages that a write or an
+/// addition was completed of.
+#[derive(Clone)]
 struct Book {
     g: Geometry,
     images: Images,
     pages: Vec<Vec<u8>>,
+    written: Vec<bool>,
 }
+
+/// What said an origin, a page, a weight that was given or a question that found none, and which.
+type Said = (&'static str, u64);
 
 #[derive(Clone, Debug)]
 enum Call {
@@ -138,7 +144,9 @@ fn longest_list(g: Geometry, call: &Call) -> u64 {
 impl Book {
     fn new(g: Geometry) -> Book {
         assert!(g.shape().is_some(), "a limit is broken: {g:?}");
-        Book { g, images: formatted(g), pages: vec![vec![0; g.w as usize]; (g.n * g.s) as usize] }
+        let pages = (g.n * g.s) as usize;
+        let (images, written) = (formatted(g), vec![false; pages]);
+        Book { g, images, pages: vec![vec![0; g.w as usize]; pages], written }
     }
 
     fn random_call(&self, random: &mut Random) -> Call {
@@ -178,10 +186,14 @@ impl Book {
     /// A call that is done.
     fn enter(&mut self, call: &Call) {
         match call {
-            Call::Write(page, data) => self.pages[*page as usize].clone_from(data),
+            Call::Write(page, data) => {
+                self.pages[*page as usize].clone_from(data);
+                self.written[*page as usize] = true;
+            }
             Call::Add(ticket) => {
                 let (w, at) = (self.g.w as usize, 16 * self.log().len());
                 self.pages[at / w][at % w..at % w + 16].copy_from_slice(ticket);
+                self.written[at / w] = true;
             }
             _ => {}
         }
@@ -211,27 +223,57 @@ impl Book {
         }
     }
 
-    /// What the book answers to a question.
-    fn standing(&self, lot: u32, bag: u16) -> Option<Weight> {
+    /// What the book answers to a question, and the page of that ticket.
+    fn standing(&self, lot: u32, bag: u16) -> Option<(Weight, usize)> {
         let log = self.log();
-        let of_both =
-            |ticket: &&&[u8]| ticket[2..4] == bag.to_le_bytes() && ticket[4..8] == lot.to_le_bytes();
-        let latest = log.iter().rev().find(of_both)?;
-        let grams = |at: usize| u32::from_le_bytes(latest[at..at + 4].try_into().unwrap());
-        (latest[0] == 1).then(|| Weight { gross: grams(8), tare: grams(12) })
+        let of_both = |ticket: &&[u8]| ticket[2..4] == bag.to_le_bytes() && ticket[4..8] == lot.to_le_bytes();
+        let place = log.iter().rposition(of_both)?;
+        let grams = |at: usize| u32::from_le_bytes(log[place][at..at + 4].try_into().unwrap());
+        let weight = Weight { gross: grams(8), tare: grams(12) };
+        (log[place][0] == 1).then_some((weight, place * 16 / self.g.w as usize))
     }
 
-    /// The store answers each question as the book does.
-    fn ask(&self, images: &Images, lost: u64) {
+    /// How a page is to be got: 0 if it was never written, 1 if it is on another chip than the lost one; else 2 if its
+    /// bit is set, and 3 if not.
+    fn origin(&self, images: &Images, lost: u64, page: usize) -> u64 {
+        let (stripe, member) = (page as u64 / self.g.n, page as u64 % self.g.n);
+        let parity_chip = self.g.n - stripe % (self.g.n + 1);
+        let chip = if member < parity_chip { member } else { member + 1 };
+        let bitmap = images.records[32 * stripe as usize + 26];
+        match (self.written[page], chip == lost) {
+            (false, _) => 0,
+            (true, false) => 1,
+            (true, true) => 3 - (bitmap >> member & 1) as u64,
+        }
+    }
+
+    /// The last in that order among the pages of the log, the one with its end included.
+    fn last_origin(&self, images: &Images, lost: u64) -> u64 {
+        let end = self.log().len() * 16 / self.g.w as usize;
+        (0..self.pages.len().min(end + 1)).map(|page| self.origin(images, lost, page)).max().unwrap()
+    }
+
+    /// The store answers each question as the book does; the origins that it says.
+    fn ask(&self, images: &Images, lost: u64) -> Vec<Said> {
+        let mut said = Vec::new();
         for (lot, bag) in LOTS.into_iter().flat_map(|lot| BAGS.map(|bag| (lot, bag))) {
             let found = find(self.g, images, lost, lot, bag);
             if self.log_is_bad() {
-                assert_eq!(found, Finding { status: refused(11), weight: None });
-            } else {
-                assert_eq!(found.status.status, DONE);
-                assert_eq!(found.weight, self.standing(lot, bag), "lot {lot}, bag {bag}, lost chip {lost}");
+                assert_eq!(found, Finding { status: refused(11), weight: None, origin: None });
+                continue;
             }
+            let standing = self.standing(lot, bag);
+            assert_eq!(found.status.status, DONE);
+            let asked = format!("lot {lot}, bag {bag}, lost chip {lost}, {:?}", self.g);
+            assert_eq!(found.weight, standing.map(|standing| standing.0), "{asked}");
+            let expected = match standing {
+                Some((_, page)) => ("weight", self.origin(images, lost, page)),
+                None => ("none", self.last_origin(images, lost)),
+            };
+            assert_eq!(found.origin.map(|origin| origin as u64), Some(expected.1), "{asked}");
+            said.push(expected);
         }
+        said
     }
 
     /// Each page reads back, with no chip lost and with each chip in turn filled with other bytes.
@@ -245,14 +287,20 @@ impl Book {
         }
     }
 
-    fn read_back(&self, images: &Images, lost: u64) {
+    /// The origins that are said.
+    fn read_back(&self, images: &Images, lost: u64) -> Vec<Said> {
+        let mut said = self.ask(images, lost);
         for (page, expected) in self.pages.iter().enumerate() {
             let mut buffer = vec![0x77; self.g.w as usize];
-            let status = read(self.g, images, lost, page as u64, &mut buffer);
+            let Reading { status, origin } = read(self.g, images, lost, page as u64, &mut buffer);
+            let read = format!("page {page}, lost chip {lost}, {:?}", self.g);
             assert_eq!(status.status, DONE);
-            assert_eq!(&buffer, expected, "page {page}, lost chip {lost}, {:?}", self.g);
+            assert_eq!(&buffer, expected, "{read}");
+            let expected = self.origin(images, lost, page);
+            assert_eq!(origin.map(|origin| origin as u64), Some(expected), "{read}");
+            said.push(("page", expected));
         }
-        self.ask(images, lost);
+        said
     }
 }
 
@@ -280,7 +328,7 @@ fn one_store_apart(g: Geometry, before: &Images, after: &Images) {
 fn every_allowance(book: &Book, call: &Call, random: &mut Random) -> u64 {
     let mut last: Option<Images> = None;
     for allowance in 0.. {
-        let mut cut = Book { g: book.g, images: book.images.clone(), pages: book.pages.clone() };
+        let mut cut = book.clone();
         let status = cut.call(NO_CHIP, call, allowance);
         if let Some(last) = &last {
             one_store_apart(book.g, last, &cut.images);
@@ -341,6 +389,7 @@ fn price_book_with_every_allowance() {
 fn price_book_over_two_lists() {
     let mut random = Random::new(2);
     let mut answers = std::collections::BTreeMap::new();
+    let mut origins = std::collections::BTreeMap::new();
     for round in 0..600 {
         let [n, w, k, b, s, m] = SMALL[round % SMALL.len()];
         let g = geometry(n, w, k, b, s, m);
@@ -362,10 +411,18 @@ fn price_book_over_two_lists() {
             let call = book.random_call(&mut random);
             book.call(chip as u64, &call, random.below(20) as u64);
         }
-        book.read_back(&book.images, chip as u64);
+        for said in book.read_back(&book.images, chip as u64) {
+            *origins.entry(said).or_insert(0) += 1;
+        }
     }
     for number in [DONE, CUT, 6, 9, 11, 12] {
         assert!(answers[&number] >= 100, "additions by answer: {answers:?}");
+    }
+    // No ticket is in a page that was never written.
+    for (what, first) in [("page", 0), ("weight", 1), ("none", 0)] {
+        for origin in first..4 {
+            assert!(origins[&(what, origin)] >= 50, "origins said: {origins:?}");
+        }
     }
 }
 
@@ -407,14 +464,14 @@ fn added(g: Geometry, images: &mut Images, ticket: &[u8]) -> [u64; 4] {
 
 /// A question that must be answered: the weight and the reads.
 fn asked(g: Geometry, images: &Images, lost: u64, lot: u32, bag: u16) -> (Option<Weight>, u64) {
-    let Finding { status, weight } = find(g, images, lost, lot, bag);
+    let Finding { status, weight, .. } = find(g, images, lost, lot, bag);
     assert_eq!(status, Status { reads: status.reads, ..Status::default() });
     (weight, status.reads)
 }
 
 fn page_of(g: Geometry, images: &Images, page: u64) -> Vec<u8> {
     let mut buffer = vec![0; g.w as usize];
-    assert_eq!(read(g, images, NO_CHIP, page, &mut buffer).status, DONE);
+    assert_eq!(read(g, images, NO_CHIP, page, &mut buffer).status.status, DONE);
     buffer
 }
 
@@ -486,6 +543,67 @@ fn log_with_each_chip_lost() {
     assert_eq!(ask(&images, 3), (latest, 4 + 4));
     assert_eq!(asked(g, &images, NO_CHIP, 1, 5), (latest, 5));
     assert_eq!(asked(g, &images, NO_CHIP, 1, 8), (None, 5));
+}
+
+/// Stripe 0 is committed, and page 0 is then written again; page 4 is alone in the partial parity of stripe 1.
+#[test]
+fn origins_of_pages() {
+    use Origin::*;
+    let mut store = Store::new();
+    store.write(0);
+    store.write(1);
+    store.commit(0);
+    store.write(0);
+    store.write(4);
+    let Store { g, images } = &store;
+    let origins = |lost| {
+        let of_page = |page| read(*g, &without(*g, images, lost), lost, page, &mut [0x77; 16]).origin;
+        [0, 1, 2, 4, 5].map(|page| of_page(page).unwrap())
+    };
+    // Pages 0 and 4 are on chip 0, pages 1 and 5 on chip 1, page 2 on chip 2.
+    assert_eq!(origins(0), [Partial, Direct, Unwritten, Partial, Unwritten]);
+    assert_eq!(origins(1), [Direct, Full, Unwritten, Direct, Unwritten]);
+    for lost in 2..=4 {
+        assert_eq!(origins(lost), [Direct, Direct, Unwritten, Direct, Unwritten]);
+    }
+    for (lost, page, len) in [(5, 0, 16), (0, 24, 16), (0, 0, 15)] {
+        assert_eq!(read(*g, images, lost, page, &mut vec![0x77; len]).origin, None);
+    }
+}
+
+/// One ticket to a page: bag 1 in pages 0 and 1, bag 2 in page 2 and withdrawn in page 3; the log ends in page 4.
+#[test]
+fn origins_of_the_log() {
+    use Origin::*;
+    let Store { g, mut images } = Store::new();
+    let origins = |images: &Images, lost: u64| {
+        let images = if lost == NO_CHIP { images.clone() } else { without(g, images, lost) };
+        [1, 2, 3].map(|bag| find(g, &images, lost, 7, bag).origin.unwrap())
+    };
+    for lost in [0, 1, 2, 3, 4, NO_CHIP] {
+        assert_eq!(origins(&images, lost), [Unwritten; 3], "page 0 was never written");
+    }
+    let withdrawal = ticket(2, 0, 7, 2, [0, 0]);
+    for ticket in [weight(7, 1, 80), weight(7, 1, 90), weight(7, 2, 70), withdrawal] {
+        added(g, &mut images, &ticket);
+    }
+    let expect = |images: &Images, rebuilt| {
+        assert_eq!(origins(images, NO_CHIP), [Direct; 3]);
+        assert_eq!(origins(images, 0), [Direct, rebuilt, rebuilt], "bag 1 was weighed again in page 1");
+        assert_eq!(origins(images, 1), [rebuilt; 3]);
+        assert_eq!(origins(images, 2), [Direct, rebuilt, rebuilt]);
+        assert_eq!(origins(images, 3), [Direct, rebuilt, rebuilt]);
+        assert_eq!(origins(images, 4), [Direct; 3], "no page of the log is on chip 4");
+    };
+    expect(&images, Partial);
+    commit(g, &mut images, NO_CHIP, 0, ALL);
+    expect(&images, Full);
+    // The page with the end counts too: page 4, on chip 0 as page 0 is.
+    write(g, &mut images, NO_CHIP, 0, &weight(7, 1, 80), ALL);
+    assert_eq!(origins(&images, 0), [Direct, Partial, Partial]);
+    write(g, &mut images, NO_CHIP, 4, &[0; 16], ALL);
+    commit(g, &mut images, NO_CHIP, 1, ALL);
+    assert_eq!(origins(&images, 0), [Direct, Full, Full]);
 }
 
 /// A cut addition leaves the log, at each allowance, whichever chip dies; done it adds its ticket.
@@ -595,7 +713,8 @@ fn bytes_behind_the_log() {
         assert_eq!(added(g, &mut images, &weight(7, 2, 8)), [2, 1, 0, 3]);
         assert_eq!(page_of(g, &images, 0), [good, weight(7, 2, 8), bad, weight(7, 1, 90)].concat());
         for bag in [1, 2, 3] {
-            assert_eq!(find(g, &images, NO_CHIP, 7, bag), Finding { status: refused(11), weight: None });
+            let bad = Finding { status: refused(11), weight: None, origin: None };
+            assert_eq!(find(g, &images, NO_CHIP, 7, bag), bad);
         }
         assert_eq!(add(g, &mut images, NO_CHIP, &good, ALL), refused(11), "{name}");
         // A page of zeros ends the log, and counts; one that was never written ends it, and does not.

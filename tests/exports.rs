@@ -28,7 +28,7 @@ exports! {
         lost: u64,
         page: u64,
         buffer: *mut u8 [buffer_len],
-    ) -> Report;
+    ) -> ReadReport;
 
     vazhettu_write(
         g: Geometry,

@@ -1,7 +1,7 @@
 //! The store's C interface, and safe calls of it on lent copies with guard bytes around them.
 
 use crate::random::Random;
-use crate::reference::{self, Images};
+use crate::reference::{self, Finding, Images, Reading, Status, Weight};
 
 #[repr(C)]
 #[derive(Clone, Copy)]
@@ -24,6 +24,17 @@ pub struct Report {
     stores: u64,
 }
 
+#[repr(C)]
+#[derive(Clone, Copy)]
+pub struct ReadReport {
+    status: u64,
+    reads: u64,
+    programs: u64,
+    erases: u64,
+    stores: u64,
+    origin: u64,
+}
+
 /// `standing` is 1 where a weight stands, else 0, and so are both weights.
 #[repr(C)]
 #[derive(Clone, Copy)]
@@ -36,6 +47,7 @@ pub struct FindReport {
     standing: u64,
     gross: u64,
     tare: u64,
+    origin: u64,
 }
 
 macro_rules! exports {
@@ -54,23 +66,53 @@ impl From<reference::Geometry> for Geometry {
     }
 }
 
-impl From<Report> for reference::Status {
-    fn from(r: Report) -> reference::Status {
-        reference::Status {
-            status: r.status,
-            reads: r.reads,
-            programs: r.programs,
-            erases: r.erases,
-            stores: r.stores,
-        }
+/// What any call answers, as numbers: of a question 1 if a weight stands, its gross and its tare; of a reading its
+/// origin. What a call does not have is 0.
+#[derive(Clone, Copy, Debug, Default, PartialEq, Eq)]
+pub struct Answer {
+    pub status: Status,
+    pub found: [u64; 3],
+    pub origin: u64,
+}
+
+impl From<Report> for Status {
+    fn from(report: Report) -> Status {
+        let Report { status, reads, programs, erases, stores } = report;
+        Status { status, reads, programs, erases, stores }
     }
 }
 
-/// Status and counts, and the last three numbers as they came.
-impl From<FindReport> for (reference::Status, [u64; 3]) {
-    fn from(found: FindReport) -> (reference::Status, [u64; 3]) {
-        let FindReport { status, reads, programs, erases, stores, standing, gross, tare } = found;
-        (reference::Status { status, reads, programs, erases, stores }, [standing, gross, tare])
+impl From<ReadReport> for Answer {
+    fn from(report: ReadReport) -> Answer {
+        let ReadReport { status, reads, programs, erases, stores, origin } = report;
+        Answer { status: Status { status, reads, programs, erases, stores }, found: [0; 3], origin }
+    }
+}
+
+impl From<FindReport> for Answer {
+    fn from(report: FindReport) -> Answer {
+        let FindReport { status, reads, programs, erases, stores, standing, gross, tare, origin } = report;
+        let status = Status { status, reads, programs, erases, stores };
+        Answer { status, found: [standing, gross, tare], origin }
+    }
+}
+
+impl From<Status> for Answer {
+    fn from(status: Status) -> Answer {
+        Answer { status, ..Answer::default() }
+    }
+}
+
+impl From<Reading> for Answer {
+    fn from(Reading { status, origin }: Reading) -> Answer {
+        Answer { status, found: [0; 3], origin: origin.map_or(0, |origin| origin as u64) }
+    }
+}
+
+impl From<Finding> for Answer {
+    fn from(Finding { status, weight, origin }: Finding) -> Answer {
+        let found = weight.map_or([0; 3], |Weight { gross, tare }| [1, gross as u64, tare as u64]);
+        Answer { status, found, origin: origin.map_or(0, |origin| origin as u64) }
     }
 }
 
@@ -160,11 +202,7 @@ macro_rules! call {
     }};
 }
 
-pub fn format<L: Buffer>(
-    g: reference::Geometry,
-    lent: &mut LentImages<L>,
-    allowance: u64,
-) -> reference::Status {
+pub fn format<L: Buffer>(g: reference::Geometry, lent: &mut LentImages<L>, allowance: u64) -> Status {
     call!(vazhettu_format, g, lent, allowance)
 }
 
@@ -173,7 +211,7 @@ pub fn open<L: Buffer>(
     lent: &mut LentImages<L>,
     lost: u64,
     allowance: u64,
-) -> reference::Status {
+) -> Status {
     call!(vazhettu_open, g, lent, lost, allowance)
 }
 
@@ -183,7 +221,7 @@ pub fn read<L: Buffer>(
     lost: u64,
     page: u64,
     buffer: &mut L,
-) -> reference::Status {
+) -> Answer {
     call!(vazhettu_read, g, lent, lost, page, buffer.pointer(), buffer.length())
 }
 
@@ -194,7 +232,7 @@ pub fn write<L: Buffer>(
     page: u64,
     data: &mut L,
     allowance: u64,
-) -> reference::Status {
+) -> Status {
     call!(vazhettu_write, g, lent, lost, page, data.pointer(), data.length(), allowance)
 }
 
@@ -204,7 +242,7 @@ pub fn commit<L: Buffer>(
     lost: u64,
     stripe: u64,
     allowance: u64,
-) -> reference::Status {
+) -> Status {
     call!(vazhettu_commit, g, lent, lost, stripe, allowance)
 }
 
@@ -214,7 +252,7 @@ pub fn collect<L: Buffer>(
     lost: u64,
     chip: u64,
     allowance: u64,
-) -> reference::Status {
+) -> Status {
     call!(vazhettu_collect, g, lent, lost, chip, allowance)
 }
 
@@ -224,17 +262,16 @@ pub fn add<L: Buffer>(
     lost: u64,
     ticket: &mut L,
     allowance: u64,
-) -> reference::Status {
+) -> Status {
     call!(vazhettu_add, g, lent, lost, ticket.pointer(), ticket.length(), allowance)
 }
 
-/// Status and counts; whether a weight stands, gross and tare.
 pub fn find<L: Buffer>(
     g: reference::Geometry,
     lent: &mut LentImages<L>,
     lost: u64,
     lot: u32,
     bag: u16,
-) -> (reference::Status, [u64; 3]) {
+) -> Answer {
     call!(vazhettu_find, g, lent, lost, lot, bag)
 }

@@ -1,5 +1,5 @@
-//! The weight store, written a second time, from document 01, request 1 of document 02, and the
-//! readings of their open points.
+//! The weight store, written a second time, from document 01, requests 1 and 2 of document 02, and
+//! the readings of their open points.
 //!
 //! It is the plain model that random calls are compared with: it owns its images, makes one
 //! store after the other as the document lists them, and takes time linear in the images.
@@ -66,6 +66,23 @@ pub struct Status {
     pub stores: u64,
 }
 
+/// "one of four things: never written, read directly, rebuilt through the partial parity, rebuilt
+/// through the full parity", as "0, 1, 2 or 3 in that order".
+#[derive(Clone, Copy, Debug, PartialEq, Eq, PartialOrd, Ord)]
+pub enum Origin {
+    Unwritten = 0,
+    Direct = 1,
+    Partial = 2,
+    Full = 3,
+}
+
+/// What a read answers: status and counts, and how its page was got; nothing where it is refused.
+#[derive(Clone, Copy, Debug, PartialEq, Eq)]
+pub struct Reading {
+    pub status: Status,
+    pub origin: Option<Origin>,
+}
+
 /// A weight that stands: gross and tare grams.
 #[derive(Clone, Copy, Debug, PartialEq, Eq)]
 pub struct Weight {
@@ -73,12 +90,13 @@ pub struct Weight {
     pub tare: u32,
 }
 
-/// What a question is answered: status and counts as of a read, and the weight that stands, if
-/// there is one; none where it is refused.
+/// What a question is answered: status and counts as of a read, the weight that stands, if there
+/// is one, and an origin; neither where it is refused.
 #[derive(Clone, Copy, Debug, PartialEq, Eq)]
 pub struct Finding {
     pub status: Status,
     pub weight: Option<Weight>,
+    pub origin: Option<Origin>,
 }
 
 /// "Where a call is turned back", with the table's numbers, and those of request 1.
@@ -102,6 +120,18 @@ impl Status {
     /// "counts zero".
     fn refused(refusal: Refusal) -> Status {
         Status { status: refusal as u64, ..Status::default() }
+    }
+}
+
+impl Reading {
+    fn refused(refusal: Refusal) -> Reading {
+        Reading { status: Status::refused(refusal), origin: None }
+    }
+}
+
+impl Finding {
+    fn refused(refusal: Refusal) -> Finding {
+        Finding { status: Status::refused(refusal), weight: None, origin: None }
     }
 }
 
@@ -275,6 +305,20 @@ impl Record {
         self.bitmap.count_ones() as usize
     }
 
+    /// How a member's page is got, its chip being lost or not. One that was never written is so on a
+    /// lost chip too: only "a written page is gathered".
+    fn origin(&self, member: usize, lost: bool) -> Origin {
+        if self.current[member] == NONE {
+            Origin::Unwritten
+        } else if !lost {
+            Origin::Direct
+        } else if self.bit(member) {
+            Origin::Partial
+        } else {
+            Origin::Full
+        }
+    }
+
     /// "store its record with that copy in place of the original".
     fn put_in_place(&mut self, copy: Spare, page: u16) {
         let numbers = match copy.kind {
@@ -405,9 +449,11 @@ pub struct Name {
     pub member: u8,
 }
 
-/// What a walk of the log has found: its reads, and its end, if it does not fill every page.
+/// What a walk of the log has found: its reads, "the last in that order" of its pages' origins, and
+/// its end, if it does not fill every page.
 struct Log {
     reads: u64,
+    origin: Origin,
     end: Option<LogEnd>,
 }
 
@@ -601,8 +647,8 @@ impl<'a> View<'a> {
         reads
     }
 
-    /// A member's page as it reads, and its reads. It is where it lies, or in the work page if it is
-    /// zeros or gathered.
+    /// A member's page as it reads, its reads, and how it was got. It is where it lies, or in the work
+    /// page if it is zeros or gathered.
     pub fn fetch<'b>(
         self,
         stripe: usize,
@@ -610,47 +656,50 @@ impl<'a> View<'a> {
         member: usize,
         lost: Option<usize>,
         work: &'b mut [u8],
-    ) -> (&'b [u8], u64)
+    ) -> (&'b [u8], u64, Origin)
     where
         'a: 'b,
     {
         let chip = self.shape.member_chip(stripe, member);
-        match record.current[member] {
-            NONE => {
+        let origin = record.origin(member, lost == Some(chip));
+        match origin {
+            Origin::Unwritten => {
                 work.fill(0);
-                (work, 0)
+                (work, 0, origin)
             }
-            _ if lost == Some(chip) => {
+            Origin::Direct => (self.data(chip, record.current[member] as usize), 1, origin),
+            Origin::Partial | Origin::Full => {
                 let reads = self.rebuild(stripe, record, member, work);
-                (work, reads)
+                (work, reads, origin)
             }
-            current => (self.data(chip, current as usize), 1),
         }
     }
 
     /// "Tickets fill the pages in order, and the log ends at the first of kind 0." `each` is shown the
-    /// tickets before it; one that breaks the rules ends the walk.
-    fn walk_log(self, lost: Option<usize>, mut each: impl FnMut(&Ticket)) -> Result<Log, Refusal> {
+    /// tickets before it, and how the page of each was got; one that breaks the rules ends the walk.
+    fn walk_log(self, lost: Option<usize>, mut each: impl FnMut(&Ticket, Origin)) -> Result<Log, Refusal> {
         let mut work = vec![0; self.shape.w];
-        let mut reads = 0;
+        let mut log = Log { reads: 0, origin: Origin::Unwritten, end: None };
         for stripe in 0..self.shape.s {
             let record = self.record(stripe);
             for member in 0..self.shape.n {
-                let (page, fetched) = self.fetch(stripe, &record, member, lost, &mut work);
-                reads += fetched;
+                let (page, reads, origin) = self.fetch(stripe, &record, member, lost, &mut work);
+                log.reads += reads;
+                log.origin = log.origin.max(origin);
                 for (i, bytes) in page.chunks_exact(TICKET_BYTES).enumerate() {
                     let ticket = Ticket::from_bytes(bytes);
                     if ticket.kind == EMPTY {
-                        return Ok(Log { reads, end: Some(LogEnd { stripe, member, at: i * TICKET_BYTES }) });
+                        log.end = Some(LogEnd { stripe, member, at: i * TICKET_BYTES });
+                        return Ok(log);
                     }
                     if !ticket.keeps_rules() {
                         return Err(Refusal::Ticket);
                     }
-                    each(&ticket);
+                    each(&ticket, origin);
                 }
             }
         }
-        Ok(Log { reads, end: None })
+        Ok(log)
     }
 
     /// The stripes whose record has a slot, with their records.
@@ -946,7 +995,7 @@ fn check_add(geometry: Geometry, images: &Images, lost: u64, ticket: &[u8]) -> R
     if !Ticket::from_bytes(ticket).keeps_rules() {
         return Err(Refusal::Ticket);
     }
-    let Log { reads, end } = view.walk_log(None, |_| {})?;
+    let Log { reads, end, .. } = view.walk_log(None, |_, _| {})?;
     let LogEnd { stripe, member, at } = end.ok_or(Refusal::LogFull)?;
     let mut data = vec![0; view.shape.w];
     let chip = view.shape.member_chip(stripe, member);
@@ -1197,27 +1246,29 @@ pub fn open(geometry: Geometry, images: &mut Images, lost: u64, allowance: u64) 
     }
 }
 
-/// "copies the current page; zeros if none. On the lost chip, a written page is gathered".
-pub fn read(geometry: Geometry, images: &Images, lost: u64, page: u64, buffer: &mut [u8]) -> Status {
+/// "copies the current page; zeros if none. On the lost chip, a written page is gathered"; "A reading
+/// now says one of four things".
+pub fn read(geometry: Geometry, images: &Images, lost: u64, page: u64, buffer: &mut [u8]) -> Reading {
     let (view, lost) = match check_read(geometry, images, lost, page, buffer) {
-        Err(refusal) => return Status::refused(refusal),
+        Err(refusal) => return Reading::refused(refusal),
         Ok(checked) => checked,
     };
     let (stripe, member) = (page as usize / view.shape.n, page as usize % view.shape.n);
     let chip = view.shape.member_chip(stripe, member);
     let record = view.record(stripe);
-    let reads = match record.current[member] {
-        NONE => {
+    let origin = record.origin(member, lost == Some(chip));
+    let reads = match origin {
+        Origin::Unwritten => {
             buffer.fill(0);
             0
         }
-        _ if lost == Some(chip) => view.rebuild(stripe, &record, member, buffer),
-        current => {
-            buffer.copy_from_slice(view.data(chip, current as usize));
+        Origin::Direct => {
+            buffer.copy_from_slice(view.data(chip, record.current[member] as usize));
             1
         }
+        Origin::Partial | Origin::Full => view.rebuild(stripe, &record, member, buffer),
     };
-    Status { status: DONE, reads, ..Status::default() }
+    Reading { status: Status { status: DONE, reads, ..Status::default() }, origin: Some(origin) }
 }
 
 pub fn write(
@@ -1264,21 +1315,25 @@ pub fn add(geometry: Geometry, images: &mut Images, lost: u64, ticket: &[u8], al
 }
 
 /// "Of tickets with one lot and bag, the latest in the log stands; asked for lot and bag, the store
-/// gives the one standing if it is a weight, else none."
+/// gives the one standing if it is a weight, else none." "a ticket given carries its page's, any other
+/// reading of the log the last in that order among its pages".
 pub fn find(geometry: Geometry, images: &Images, lost: u64, lot: u32, bag: u16) -> Finding {
     let mut standing = None;
     let log = check_images(geometry, images, lost).and_then(|(view, lost)| {
-        view.walk_log(lost, |ticket| {
+        view.walk_log(lost, |ticket, origin| {
             if ticket.lot == lot && ticket.bag == bag {
-                standing = Some(*ticket);
+                standing = Some((*ticket, origin));
             }
         })
     });
-    match log {
-        Err(refusal) => Finding { status: Status::refused(refusal), weight: None },
-        Ok(Log { reads, .. }) => Finding {
-            status: Status { status: DONE, reads, ..Status::default() },
-            weight: standing.and_then(Ticket::weight),
-        },
+    let log = match log {
+        Err(refusal) => return Finding::refused(refusal),
+        Ok(log) => log,
+    };
+    let given = standing.and_then(|(ticket, origin)| Some((ticket.weight()?, origin)));
+    Finding {
+        status: Status { status: DONE, reads: log.reads, ..Status::default() },
+        weight: given.map(|(weight, _)| weight),
+        origin: Some(given.map_or(log.origin, |(_, origin)| origin)),
     }
 }

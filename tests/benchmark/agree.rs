@@ -4,7 +4,8 @@
 use crate::breakers::BREAKERS;
 use crate::damage::change_byte;
 use crate::generator::{self, ALL};
-use crate::owned::{Answer, Calls, REFERENCE, THIRD, THIRD_NAME};
+use crate::library::Answer;
+use crate::owned::{Calls, REFERENCE, THIRD, THIRD_NAME};
 use crate::random::Random;
 use crate::reference::{self, Geometry, Images, Shape, NO_CHIP, TICKET_BYTES};
 use crate::tickets;
@@ -29,7 +30,8 @@ pub fn check() {
         for _ in 0..CALLS {
             let asked = Asked::any(random, shape, lost);
             let mut others = images.clone();
-            let expected = asked.make(&REFERENCE, g, &mut images);
+            let (answer, bytes) = asked.make(&REFERENCE, g, &mut images);
+            let expected = (THIRD.told(answer), bytes);
             let found = asked.make(&THIRD, g, &mut others);
             if found != expected || others != images {
                 fail(&format!(
@@ -154,13 +156,13 @@ impl Asked {
         let status = match kind {
             0 => (by.format)(g, images, allowance),
             1 => (by.open)(g, images, lost, allowance),
-            2 => (by.read)(g, images, lost, number, &mut bytes),
+            2 => return ((by.read)(g, images, lost, number, &mut bytes), bytes),
             3 => (by.write)(g, images, lost, number, &bytes, allowance),
             4 => (by.commit)(g, images, lost, number, allowance),
             5 => (by.collect)(g, images, lost, number, allowance),
             6 => (tickets().add)(g, images, lost, &self.ticket, allowance),
             _ => return ((tickets().find)(g, images, lost, lot, bag), bytes),
         };
-        ((status, [0; 3]), bytes)
+        (status.into(), bytes)
     }
 }

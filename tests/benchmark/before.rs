@@ -1,8 +1,42 @@
 //! The library as it was: the exports of another archive, with `before_` in front of their names.
 
-use crate::library::{FindReport, Geometry, Report};
+use crate::library::{Answer, Geometry, Report};
+#[cfg(before_origins)]
+use crate::library::{FindReport, ReadReport};
 use crate::owned::Tickets;
 use crate::reference::{self, Images, Status};
+#[cfg(not(before_origins))]
+use without_origins::{FindReport, ReadReport};
+
+/// The reports of readings that did not say how a page was got.
+#[cfg(not(before_origins))]
+mod without_origins {
+    use super::{Answer, Report, Status};
+
+    #[repr(C)]
+    pub struct ReadReport(Report);
+
+    #[repr(C)]
+    pub struct FindReport {
+        report: Report,
+        /// 1 where a weight stands, gross and tare.
+        found: [u64; 3],
+    }
+
+    impl From<ReadReport> for Answer {
+        fn from(ReadReport(report): ReadReport) -> Answer {
+            Status::from(report).into()
+        }
+    }
+
+    impl From<FindReport> for Answer {
+        fn from(FindReport { report, found }: FindReport) -> Answer {
+            Answer { found, ..Status::from(report).into() }
+        }
+    }
+}
+
+pub const ORIGINS: bool = cfg!(before_origins);
 
 macro_rules! exports {
     ($($export:ident($($argument:ident: $type:ty $([$len:ident])?,)*) -> $answer:ty;)*) => {
@@ -41,7 +75,7 @@ pub fn open(g: reference::Geometry, images: &mut Images, lost: u64, allowance: u
     call!(vazhettu_open, g, images, as_mut_ptr, lost, allowance)
 }
 
-pub fn read(g: reference::Geometry, images: &Images, lost: u64, page: u64, buffer: &mut [u8]) -> Status {
+pub fn read(g: reference::Geometry, images: &Images, lost: u64, page: u64, buffer: &mut [u8]) -> Answer {
     call!(vazhettu_read, g, images, as_ptr, lost, page, buffer.as_mut_ptr(), buffer.len())
 }
 
@@ -76,6 +110,6 @@ fn add(g: reference::Geometry, images: &mut Images, lost: u64, ticket: &[u8], al
 }
 
 #[cfg(before_tickets)]
-fn find(g: reference::Geometry, images: &Images, lost: u64, lot: u32, bag: u16) -> crate::owned::Answer {
+fn find(g: reference::Geometry, images: &Images, lost: u64, lot: u32, bag: u16) -> Answer {
     call!(vazhettu_find, g, images, as_ptr, lost, lot, bag)
 }

@@ -3,8 +3,8 @@
 use crate::clock::{Best, Caches, Clock, Race, Taken};
 use crate::floor::Floor;
 use crate::images::Order;
+use crate::library::Answer;
 use crate::log::Passes;
-use crate::owned::Answer;
 use crate::patch::Patch;
 use crate::plans::{Kind, Plan};
 use crate::random::Random;
@@ -93,7 +93,7 @@ impl Bench {
                 floor: best(FLOOR),
                 passes,
                 settled: taken.best.iter().all(Best::settled),
-                counts: known.answer.0,
+                counts: known.answer.status,
             }
         };
         self.rows.iter().zip(taken).map(measured).collect()
@@ -103,7 +103,7 @@ impl Bench {
 /// All implementations must agree before any time is taken.
 fn first_call(row: Row, trio: &mut Trio) -> Known {
     let (answer, back) = trio.by_all(row.call, u64::MAX);
-    if (answer.0.status, answer.1) != (row.answer, row.standing) {
+    if (answer.status.status, answer.found) != (row.answer, row.standing) {
         fail(&format!("{}: {answer:?}", row.name));
     }
     trio.put(&back);
@@ -117,7 +117,7 @@ impl Known {
 
     /// A pass goes over as many pages as the call counts.
     fn check_passes(&self, floor: &Floor) {
-        let counts = self.answer.0;
+        let counts = self.answer.status;
         if !self.row.passes.is_empty() && floor.passed(self.row.scan) != counts.reads {
             fail(&format!("{}: {counts:?}, but a pass has other reads", self.row.name));
         }
@@ -175,7 +175,7 @@ impl Race for Sides<'_> {
             REFERENCE => self.trio.by_owner(By::Reference, row.call, times),
             THIRD => self.trio.by_owner(By::Third, row.call, times),
             FLOOR => {
-                self.floor.run(row.scan, answer.0, repeats);
+                self.floor.run(row.scan, answer.status, repeats);
                 None
             }
             pass => {

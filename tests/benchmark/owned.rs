@@ -2,22 +2,29 @@
 
 #[cfg(before)]
 use crate::before as third;
+use crate::library::Answer;
 use crate::reference::{self, Geometry, Images, Status};
 #[cfg(not(before))]
 use crate::tuned as third;
 
-/// Status and counts; and of a question whether a weight stands, gross and tare.
-pub type Answer = (Status, [u64; 3]);
-
 pub struct Calls {
     pub format: fn(Geometry, &mut Images, u64) -> Status,
     pub open: fn(Geometry, &mut Images, u64, u64) -> Status,
-    pub read: fn(Geometry, &Images, u64, u64, &mut [u8]) -> Status,
+    pub read: fn(Geometry, &Images, u64, u64, &mut [u8]) -> Answer,
     pub write: fn(Geometry, &mut Images, u64, u64, &[u8], u64) -> Status,
     pub commit: fn(Geometry, &mut Images, u64, u64, u64) -> Status,
     pub collect: fn(Geometry, &mut Images, u64, u64, u64) -> Status,
     /// An archive of before the tickets has none.
     pub tickets: Option<Tickets>,
+    /// Whether a reading says how its page was got; an archive of before the origins does not.
+    pub origins: bool,
+}
+
+impl Calls {
+    /// As much of an answer as it says.
+    pub fn told(&self, answer: Answer) -> Answer {
+        Answer { origin: if self.origins { answer.origin } else { 0 }, ..answer }
+    }
 }
 
 pub struct Tickets {
@@ -28,16 +35,20 @@ pub struct Tickets {
 pub const REFERENCE: Calls = Calls {
     format: reference::format,
     open: reference::open,
-    read: reference::read,
+    read,
     write: reference::write,
     commit: reference::commit,
     collect: reference::collect,
     tickets: Some(Tickets { add: reference::add, find }),
+    origins: true,
 };
 
+fn read(geometry: Geometry, images: &Images, lost: u64, page: u64, buffer: &mut [u8]) -> Answer {
+    reference::read(geometry, images, lost, page, buffer).into()
+}
+
 fn find(geometry: Geometry, images: &Images, lost: u64, lot: u32, bag: u16) -> Answer {
-    let found = reference::find(geometry, images, lost, lot, bag);
-    (found.status, found.weight.map_or([0; 3], |weight| [1, weight.gross as u64, weight.tare as u64]))
+    reference::find(geometry, images, lost, lot, bag).into()
 }
 
 /// The one tuned by hand; or the library as it was.
@@ -49,6 +60,7 @@ pub const THIRD: Calls = Calls {
     commit: third::commit,
     collect: third::collect,
     tickets: third::TICKETS,
+    origins: third::ORIGINS,
 };
 
 /// What the third is called, and its column.

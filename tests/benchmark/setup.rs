@@ -61,8 +61,8 @@ impl Setup {
 }
 
 fn collect(trio: &mut Trio, chip: u64, allowance: u64) -> (Status, (Patch, Patch)) {
-    let ((counts, _), back) = trio.by_all(Call::Collect { chip }, allowance);
-    (counts, (back.now(trio.images()), back))
+    let (answer, back) = trio.by_all(Call::Collect { chip }, allowance);
+    (answer.status, (back.now(trio.images()), back))
 }
 
 fn room(trio: &mut Trio) -> Vec<(Patch, Patch)> {

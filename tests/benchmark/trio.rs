@@ -1,8 +1,8 @@
 //! The same store three times, lent to the library and owned by the second and the third implementation, and
 //! the calls of all.
 
-use crate::library::{self, Buffer, Lent, LentImages};
-use crate::owned::{Answer, Calls, REFERENCE, THIRD};
+use crate::library::{self, Answer, Buffer, Lent, LentImages};
+use crate::owned::{Calls, REFERENCE, THIRD};
 use crate::patch::Patch;
 use crate::placed;
 use crate::random::Random;
@@ -130,13 +130,14 @@ impl Trio {
 
     pub fn by_owner(&mut self, by: By, call: Call, times: Times) -> Option<Answer> {
         let Owner { calls, images, given, buffer } = &mut self.owners[by as usize];
+        let expected = calls.told(times.expected);
         let mut other = None;
         for images in images {
             let last = if matches!(call, Call::ReadShort) { images.slots.pop() } else { None };
             for _ in 0..times.repeats {
                 let images = black_box(&mut *images);
                 let found = owner_call(calls, self.geometry, images, given, buffer, call, times.allowance);
-                other = other.or((found != times.expected).then_some(found));
+                other = other.or((found != expected).then_some(found));
             }
             images.slots.extend(last);
         }
@@ -185,10 +186,10 @@ impl Trio {
     }
 
     /// What was read is the page as it stands on its chip; any other call leaves the buffer alone.
-    fn check_buffers(&self, call: Call, (answer, _): Answer) {
+    fn check_buffers(&self, call: Call, answer: Answer) {
         let (shape, view) = (self.shape, self.images().view(self.shape));
         let expected = match call {
-            Call::Read { page, .. } if answer.status == DONE => {
+            Call::Read { page, .. } if answer.status.status == DONE => {
                 let (stripe, member) = (page as usize / shape.n, page as usize % shape.n);
                 match view.record(stripe).current[member] {
                     NONE => vec![0; shape.w],
@@ -231,12 +232,13 @@ fn library_call(
     allowance: u64,
 ) -> Answer {
     let status = match call {
-        Call::Read { lost, page } => library::read(g, lent, lost, page, buffer),
-        Call::ReadBeyond => library::read(beyond(g), lent, NO_CHIP, 0, buffer),
+        Call::Read { lost, page } => return library::read(g, lent, lost, page, buffer),
+        Call::ReadBeyond => return library::read(beyond(g), lent, NO_CHIP, 0, buffer),
         Call::ReadShort => {
             let LentImages { chips, records, slots } = lent;
             let (chips, records, slots) = (Cropped(chips, 0), Cropped(records, 0), Cropped(slots, 1));
-            library::read(g, &mut LentImages { chips, records, slots }, NO_CHIP, 0, &mut Cropped(buffer, 0))
+            let mut lent = LentImages { chips, records, slots };
+            return library::read(g, &mut lent, NO_CHIP, 0, &mut Cropped(buffer, 0));
         }
         Call::Write { page } => library::write(g, lent, NO_CHIP, page, &mut given.data, allowance),
         Call::WriteCut { page } => library::write(g, lent, NO_CHIP, page, &mut given.data, 0),
@@ -248,7 +250,7 @@ fn library_call(
         Call::AddCut => library::add(g, lent, NO_CHIP, &mut given.ticket, 0),
         Call::Find { lost, lot, bag } => return library::find(g, lent, lost, lot, bag),
     };
-    (status, [0; 3])
+    status.into()
 }
 
 fn owner_call(
@@ -262,9 +264,9 @@ fn owner_call(
 ) -> Answer {
     let tickets = || by.tickets.as_ref().expect("calls of the log");
     let status = match call {
-        Call::Read { lost, page } => (by.read)(g, images, lost, page, buffer),
-        Call::ReadBeyond => (by.read)(beyond(g), images, NO_CHIP, 0, buffer),
-        Call::ReadShort => (by.read)(g, images, NO_CHIP, 0, buffer),
+        Call::Read { lost, page } => return (by.read)(g, images, lost, page, buffer),
+        Call::ReadBeyond => return (by.read)(beyond(g), images, NO_CHIP, 0, buffer),
+        Call::ReadShort => return (by.read)(g, images, NO_CHIP, 0, buffer),
         Call::Write { page } => (by.write)(g, images, NO_CHIP, page, &given.data, allowance),
         Call::WriteCut { page } => (by.write)(g, images, NO_CHIP, page, &given.data, 0),
         Call::Commit { stripe } => (by.commit)(g, images, NO_CHIP, stripe, allowance),
@@ -275,7 +277,7 @@ fn owner_call(
         Call::AddCut => (tickets().add)(g, images, NO_CHIP, &given.ticket, 0),
         Call::Find { lost, lot, bag } => return (tickets().find)(g, images, lost, lot, bag),
     };
-    (status, [0; 3])
+    status.into()
 }
 
 /// A lent image without so many bytes at its end.

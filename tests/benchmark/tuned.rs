@@ -8,7 +8,8 @@ mod records;
 mod run;
 mod spares;
 
-use crate::owned::{Answer, Tickets};
+use crate::library::Answer;
+use crate::owned::Tickets;
 use crate::reference::{
     Geometry, Images, Refusal, Shape, Status, CUT, DONE, EMPTY_RECORD, MEMBERS, NONE, NO_SLOT, RECORD_BYTES,
     TICKET_BYTES,
@@ -83,34 +84,40 @@ pub fn open(geometry: Geometry, images: &mut Images, lost: u64, allowance: u64) 
     }
 }
 
-pub fn read(geometry: Geometry, images: &Images, lost: u64, page: u64, buffer: &mut [u8]) -> Status {
+/// How a page was got, as the numbers that are said.
+const UNWRITTEN: u64 = 0;
+const DIRECT: u64 = 1;
+const PARTIAL: u64 = 2;
+const FULL: u64 = 3;
+
+pub fn read(geometry: Geometry, images: &Images, lost: u64, page: u64, buffer: &mut [u8]) -> Answer {
     let mut place = MaybeUninit::uninit();
     let found = Found::begin(&mut place);
     let (shape, lost) = match check::images(geometry, images, lost, found) {
-        Err(refusal) => return refused(refusal),
-        Ok((shape, _)) if page >= (shape.n * shape.s) as u64 => return refused(Refusal::Request),
-        Ok((shape, _)) if buffer.len() != shape.w => return refused(Refusal::Data),
+        Err(refusal) => return refused(refusal).into(),
+        Ok((shape, _)) if page >= (shape.n * shape.s) as u64 => return refused(Refusal::Request).into(),
+        Ok((shape, _)) if buffer.len() != shape.w => return refused(Refusal::Data).into(),
         Ok(checked) => checked,
     };
     let look = Look { shape, images };
     let (stripe, member) = (page as usize / shape.n, page as usize % shape.n);
     let chip = shape.member_chip(stripe, member);
-    let reads = match number(look.record(stripe), 2 * member) {
+    let (reads, origin) = match number(look.record(stripe), 2 * member) {
         NONE => {
             buffer.fill(0);
-            0
+            (0, UNWRITTEN)
         }
         _ if lost == Some(chip) => rebuild(look, stripe, member, buffer),
         current => {
             buffer.copy_from_slice(look.data(chip, current));
-            1
+            (1, DIRECT)
         }
     };
-    Status { reads, ..Status::default() }
+    Answer { status: Status { reads, ..Status::default() }, origin, ..Answer::default() }
 }
 
-/// The reads it takes.
-fn rebuild(look: Look, stripe: usize, member: usize, buffer: &mut [u8]) -> u64 {
+/// The reads it takes, and what it goes through.
+fn rebuild(look: Look, stripe: usize, member: usize, buffer: &mut [u8]) -> (u64, u64) {
     let Shape { n, w, .. } = look.shape;
     let record = look.record(stripe);
     let (bitmap, slot) = (record[26], record[27] as usize);
@@ -135,7 +142,7 @@ fn rebuild(look: Look, stripe: usize, member: usize, buffer: &mut [u8]) -> u64 {
             reads += 1;
         }
     }
-    reads
+    (reads, if through_partial { PARTIAL } else { FULL })
 }
 
 /// Refusals 1 to 9 of a call that stores.
@@ -209,6 +216,7 @@ pub fn collect(geometry: Geometry, images: &mut Images, lost: u64, chip: u64, al
     }
 }
 
+pub const ORIGINS: bool = true;
 pub const TICKETS: Option<Tickets> = Some(Tickets { add, find });
 
 fn add(geometry: Geometry, images: &mut Images, lost: u64, ticket: &[u8], allowance: u64) -> Status {
@@ -243,7 +251,7 @@ fn find(geometry: Geometry, images: &Images, lost: u64, lot: u32, bag: u16) -> A
     let log = check::images(geometry, images, lost, found)
         .and_then(|(shape, lost)| log::walk(Look { shape, images }, lost, Wanted { lot, bag }));
     match log {
-        Err(refusal) => (refused(refusal), [0; 3]),
-        Ok(log) => (Status { reads: log.reads, ..Status::default() }, log.weight()),
+        Err(refusal) => refused(refusal).into(),
+        Ok(log) => log.answer(),
     }
 }

@@ -18,6 +18,10 @@
 #define M 2
 #define NONE VAZHETTU_NO_CHIP
 #define ALL VAZHETTU_NO_LIMIT
+#define UNWRITTEN VAZHETTU_UNWRITTEN
+#define DIRECT VAZHETTU_DIRECT
+#define PARTIAL VAZHETTU_PARTIAL
+#define FULL VAZHETTU_FULL
 
 static const struct vazhettu_geometry g = {N, W, K, B, S, M};
 
@@ -91,16 +95,26 @@ static struct vazhettu_report write_page(uint64_t lost, uint64_t number, uint8_t
     return r;
 }
 
-static struct vazhettu_report read_page(uint64_t lost, uint64_t number) {
+static int read_answers(struct vazhettu_read_report r, uint64_t status, uint64_t reads, uint64_t origin) {
+    return r.status == status && r.reads == reads && r.programs == 0 && r.erases == 0 && r.stores == 0 &&
+           r.origin == origin;
+}
+
+/* Refused with this number, counts of zero, and an origin of 0. */
+static int read_refused(struct vazhettu_read_report r, uint64_t status) {
+    return read_answers(r, status, 0, 0);
+}
+
+static struct vazhettu_read_report read_page(uint64_t lost, uint64_t number) {
     return vazhettu_read(g, STORE, lost, number, page, W);
 }
 
-/* The page reads as bytes of one value, with so many pages read for it. */
-static int reads_as(uint64_t lost, uint64_t number, uint8_t fill, uint64_t reads) {
+/* The page reads as bytes of one value, with so many pages read for it, and was got so. */
+static int reads_as(uint64_t lost, uint64_t number, uint8_t fill, uint64_t reads, uint64_t origin) {
     uint8_t expected[W];
     memset(expected, fill, W);
     memset(page, ~fill, W);
-    return answers(read_page(lost, number), VAZHETTU_DONE, reads, 0, 0, 0) && !memcmp(page, expected, W);
+    return read_answers(read_page(lost, number), VAZHETTU_DONE, reads, origin) && !memcmp(page, expected, W);
 }
 
 /* Takes the bytes of a chip away, and puts them back. */
@@ -116,9 +130,9 @@ static void put_back(uint64_t chip) {
 }
 
 /* The page reads so with the bytes of that chip gone. */
-static int reads_without(uint64_t chip, uint64_t number, uint8_t fill, uint64_t reads) {
+static int reads_without(uint64_t chip, uint64_t number, uint8_t fill, uint64_t reads, uint64_t origin) {
     take_chip(chip);
-    int as_written = reads_as(chip, number, fill, reads);
+    int as_written = reads_as(chip, number, fill, reads, origin);
     put_back(chip);
     return as_written;
 }
@@ -143,23 +157,28 @@ static struct vazhettu_report weigh(uint16_t bag, uint32_t gross, uint32_t tare,
 }
 
 static int finds(struct vazhettu_find_report r, uint64_t status, uint64_t reads, uint64_t standing, uint64_t gross,
-                 uint64_t tare) {
+                 uint64_t tare, uint64_t origin) {
     return r.status == status && r.reads == reads && r.programs == 0 && r.erases == 0 && r.stores == 0 &&
-           r.standing == standing && r.gross == gross && r.tare == tare;
+           r.standing == standing && r.gross == gross && r.tare == tare && r.origin == origin;
 }
 
-/* For the bag of lot 7 this weight stands, found with so many pages read. */
-static int stands(uint64_t lost, uint16_t bag, uint32_t gross, uint32_t tare, uint64_t reads) {
-    return finds(vazhettu_find(g, STORE, lost, 7, bag), VAZHETTU_DONE, reads, 1, gross, tare);
+/* For the bag of lot 7 this weight stands, found with so many pages read, in a page that was got so. */
+static int stands(uint64_t lost, uint16_t bag, uint32_t gross, uint32_t tare, uint64_t reads, uint64_t origin) {
+    return finds(vazhettu_find(g, STORE, lost, 7, bag), VAZHETTU_DONE, reads, 1, gross, tare, origin);
 }
 
-static int none_stands(uint64_t lost, uint16_t bag, uint64_t reads) {
-    return finds(vazhettu_find(g, STORE, lost, 7, bag), VAZHETTU_DONE, reads, 0, 0, 0);
+/* The origin is the greatest of the log's pages. */
+static int none_stands(uint64_t lost, uint16_t bag, uint64_t reads, uint64_t origin) {
+    return finds(vazhettu_find(g, STORE, lost, 7, bag), VAZHETTU_DONE, reads, 0, 0, 0, origin);
 }
 
 /* A find is refused with this number, and nothing else. */
 static int find_refused(uint64_t lost, uint64_t status) {
-    return finds(vazhettu_find(g, STORE, lost, 7, 1), status, 0, 0, 0, 0);
+    return finds(vazhettu_find(g, STORE, lost, 7, 1), status, 0, 0, 0, 0, 0);
+}
+
+static void test_origins(void) {
+    expect(UNWRITTEN == 0 && DIRECT == 1 && PARTIAL == 2 && FULL == 3, "the numbers that say how a page was got");
 }
 
 static void test_lengths(void) {
@@ -173,30 +192,32 @@ static void test_format(void) {
     expect(answers(vazhettu_format(g, STORE, 26), VAZHETTU_CUT, 0, 0, 20, 26), "a format is cut one store early");
     expect(answers(vazhettu_format(g, STORE, 27), VAZHETTU_DONE, 0, 0, 20, 27), "a format is done");
     expect(answers(vazhettu_open(g, STORE, NONE, 0), VAZHETTU_DONE, 0, 0, 0, 0), "an open has nothing to do");
-    expect(reads_as(NONE, 23, 0, 0), "a page never written reads zeros");
+    expect(reads_as(NONE, 23, 0, 0, UNWRITTEN), "a page never written reads zeros");
     page[0] = 7;
-    expect(refused(read_page(NONE, 24), VAZHETTU_BAD_REQUEST) && page[0] == 7, "no page 24");
-    expect(refused(read_page(5, 0), VAZHETTU_BAD_LOST_CHIP), "no chip 5");
-    expect(refused(vazhettu_read(g, STORE, NONE, 0, page, 0), VAZHETTU_BAD_DATA), "no page of no bytes");
+    expect(read_refused(read_page(NONE, 24), VAZHETTU_BAD_REQUEST) && page[0] == 7, "no page 24");
+    expect(read_refused(read_page(5, 0), VAZHETTU_BAD_LOST_CHIP), "no chip 5");
+    expect(read_refused(vazhettu_read(g, STORE, NONE, 0, page, 0), VAZHETTU_BAD_DATA), "no page of no bytes");
 }
 
 /* Pages 1 and 2 are members 1 and 2 of stripe 0, on chips 1 and 2. */
 static void test_write(void) {
     expect(answers(write_page(NONE, 1, 0xa5, 2), VAZHETTU_CUT, 0, 1, 0, 2), "a write is cut");
-    expect(reads_as(NONE, 1, 0, 0), "a cut write was not made");
+    expect(reads_as(NONE, 1, 0, 0, UNWRITTEN), "a cut write was not made");
     expect(answers(write_page(NONE, 1, 0xa5, 3), VAZHETTU_DONE, 0, 1, 0, 3), "a write is done");
     expect(answers(write_page(NONE, 2, 0x0f, ALL), VAZHETTU_DONE, 0, 1, 0, 3), "another page");
     expect(answers(write_page(NONE, 1, 0x11, ALL), VAZHETTU_DONE, 1, 1, 0, 3), "a second write reads the first");
     expect(answers(write_page(NONE, 1, 0x77, 2), VAZHETTU_CUT, 1, 1, 0, 2), "a third is cut");
-    expect(reads_as(NONE, 1, 0x11, 1) && reads_as(NONE, 2, 0x0f, 1), "what is written reads back");
+    expect(reads_as(NONE, 1, 0x11, 1, DIRECT) && reads_as(NONE, 2, 0x0f, 1, DIRECT), "what is written reads back");
     expect(refused(write_page(NONE, 24, 1, 9), VAZHETTU_BAD_REQUEST), "no page 24 to write");
     expect(refused(vazhettu_write(g, STORE, NONE, 1, page, W - 1, 9), VAZHETTU_BAD_DATA), "a page has w bytes");
 }
 
 static void test_lost_chip(void) {
-    expect(reads_without(1, 1, 0x11, 1), "rebuilt from the partial parity and page 2");
-    expect(reads_without(1, 0, 0, 0), "a page never written needs no rebuilding");
-    expect(reads_without(1, 2, 0x0f, 1), "another chip's page reads as ever");
+    expect(reads_without(1, 1, 0x11, 1, PARTIAL), "rebuilt from the partial parity and page 2");
+    expect(reads_without(1, 0, 0, 0, UNWRITTEN), "a page never written needs no rebuilding");
+    expect(reads_without(1, 5, 0, 0, UNWRITTEN), "nor does one of the lost chip");
+    expect(reads_without(1, 2, 0x0f, 1, DIRECT), "another chip's page reads as ever");
+    expect(read_refused(vazhettu_read(g, STORE, 1, 1, page, W - 1), VAZHETTU_BAD_DATA), "refused, it has no origin");
     expect(refused(write_page(1, 3, 0x22, 9), VAZHETTU_CHIP_LOST), "no write with a chip lost");
     expect(refused(vazhettu_commit(g, STORE, 1, 0, 9), VAZHETTU_CHIP_LOST), "no commit with a chip lost");
     expect(refused(vazhettu_collect(g, STORE, 1, 0, 9), VAZHETTU_CHIP_LOST), "no collection with a chip lost");
@@ -204,11 +225,11 @@ static void test_lost_chip(void) {
 
 static void test_commit(void) {
     expect(answers(vazhettu_commit(g, STORE, NONE, 0, 1), VAZHETTU_CUT, 0, 1, 0, 1), "a commit is cut");
-    expect(reads_without(1, 1, 0x11, 1), "after which the partial parity still counts");
+    expect(reads_without(1, 1, 0x11, 1, PARTIAL), "after which the partial parity still counts");
     expect(answers(vazhettu_commit(g, STORE, NONE, 0, 2), VAZHETTU_DONE, 0, 1, 0, 2), "a commit is done");
     expect(refused(vazhettu_commit(g, STORE, NONE, 0, 2), VAZHETTU_NO_WORK), "a stripe is committed once");
     expect(refused(vazhettu_commit(g, STORE, NONE, 6, 2), VAZHETTU_BAD_REQUEST), "no stripe 6");
-    expect(reads_without(1, 1, 0x11, 2), "rebuilt from the parity page and page 2");
+    expect(reads_without(1, 1, 0x11, 2, FULL), "rebuilt from the parity page and page 2");
 }
 
 /* The first block of chip 1 is full. Its third page is page 1; the others were cut or written over. */
@@ -217,18 +238,19 @@ static void test_collect(void) {
     for (uint64_t allowance = 0; allowance < 6; allowance++) {
         struct vazhettu_report r = vazhettu_collect(g, STORE, NONE, 1, allowance);
         expect(r.status == VAZHETTU_CUT && r.stores == allowance, "a collection is cut");
-        expect(reads_as(NONE, 1, 0x11, 1) && reads_without(1, 1, 0x11, 2), "meanwhile pages read as ever");
+        expect(reads_as(NONE, 1, 0x11, 1, DIRECT) && reads_without(1, 1, 0x11, 2, FULL),
+               "meanwhile pages read as ever");
         if (allowance > 0)
             expect(refused(write_page(NONE, 1, 1, 9), VAZHETTU_COLLECTION_UNDER_WAY), "it is to be finished first");
         expect(refused(vazhettu_open(g, STORE, 1, ALL), VAZHETTU_DONE), "an open with a chip lost makes no store");
         expect(vazhettu_open(g, STORE, NONE, ALL).status == VAZHETTU_DONE, "an open finishes it");
-        expect(reads_as(NONE, 1, 0x11, 1) && reads_without(1, 1, 0x11, 2), "and then they do, too");
+        expect(reads_as(NONE, 1, 0x11, 1, DIRECT) && reads_without(1, 1, 0x11, 2, FULL), "and then they do, too");
         copy_store(&store, &saved);
     }
     expect(answers(vazhettu_collect(g, STORE, NONE, 1, 6), VAZHETTU_DONE, 1, 1, 1, 6), "a collection is done");
     expect(refused(vazhettu_collect(g, STORE, NONE, 1, 6), VAZHETTU_NO_WORK), "no full block is left");
     expect(refused(vazhettu_collect(g, STORE, NONE, 5, 6), VAZHETTU_BAD_REQUEST), "no chip 5 to collect");
-    expect(reads_as(NONE, 1, 0x11, 1) && reads_without(1, 1, 0x11, 2), "the copy reads as the page did");
+    expect(reads_as(NONE, 1, 0x11, 1, DIRECT) && reads_without(1, 1, 0x11, 2, FULL), "the copy reads as the page did");
 }
 
 /* Chip 1 has eleven places before its last clean block; the write that comes to that one collects. */
@@ -237,12 +259,14 @@ static void test_room(void) {
         expect(write_page(NONE, 1, i, ALL).erases == 0, "there is a place");
     struct vazhettu_report r = write_page(NONE, 1, 0x3c, 4 * K + 13);
     expect(r.status == VAZHETTU_DONE && r.erases == 1 && r.stores > 3, "a write that finds no place collects");
-    expect(reads_as(NONE, 1, 0x3c, 1) && reads_without(1, 1, 0x3c, 0), "and is made");
-    expect(reads_without(2, 2, 0x0f, 2), "page 2 is rebuilt from parity and the old page 1");
+    expect(reads_as(NONE, 1, 0x3c, 1, DIRECT) && reads_without(1, 1, 0x3c, 0, PARTIAL), "and is made");
+    expect(reads_without(2, 2, 0x0f, 2, FULL), "page 2 is rebuilt from parity and the old page 1");
     write_page(NONE, 4, 0x44, ALL);
     expect(answers(write_page(NONE, 8, 0x48, ALL), VAZHETTU_DONE, 2, 2, 0, 5), "a third partial parity commits the first");
-    expect(reads_without(1, 1, 0x3c, 2) && reads_without(2, 2, 0x0f, 2), "whose pages are rebuilt from parity");
-    expect(reads_without(0, 4, 0x44, 0) && reads_without(0, 8, 0x48, 0), "and those of the others from their slots");
+    expect(reads_without(1, 1, 0x3c, 2, FULL) && reads_without(2, 2, 0x0f, 2, FULL),
+           "whose pages are rebuilt from parity");
+    expect(reads_without(0, 4, 0x44, 0, PARTIAL) && reads_without(0, 8, 0x48, 0, PARTIAL),
+           "and those of the others from their slots");
 }
 
 static void test_damage(void) {
@@ -280,14 +304,14 @@ static void test_ticket(void) {
 /* The store is as a format leaves it. A page has two tickets; pages 0 and 1 stand on chips 0 and 1. */
 static void test_add(void) {
     uint8_t tickets[2 * W] = {0};
-    expect(none_stands(NONE, 1, 0), "the log of a new store is empty");
+    expect(none_stands(NONE, 1, 0, UNWRITTEN) && none_stands(0, 1, 0, UNWRITTEN), "the log of a new store is empty");
     expect(answers(weigh(1, 60140, 140, 2), VAZHETTU_CUT, 0, 1, 0, 2), "an addition is cut");
-    expect(none_stands(NONE, 1, 0), "and is not in the log");
+    expect(none_stands(NONE, 1, 0, UNWRITTEN), "and is not in the log");
     expect(answers(weigh(1, 60140, 140, 3), VAZHETTU_DONE, 0, 1, 0, 3), "an addition is done");
-    expect(stands(NONE, 1, 60140, 140, 1), "and is in the log");
+    expect(stands(NONE, 1, 60140, 140, 1, DIRECT), "and is in the log");
     expect(answers(weigh(2, 59870, 140, ALL), VAZHETTU_DONE, 2, 1, 0, 3), "one more to page 0 reads it for log and write");
     expect(answers(weigh(3, 1, 0, 0), VAZHETTU_CUT, 1, 0, 0, 0), "cut before all stores it has the reads of the log");
-    expect(none_stands(NONE, 3, 1), "page 1 was never written");
+    expect(none_stands(NONE, 3, 1, DIRECT), "page 1 was never written");
     expect(answers(add(VAZHETTU_WEIGHT, UINT16_MAX, UINT32_MAX, UINT32_MAX, UINT32_MAX, ALL), VAZHETTU_DONE, 1, 1, 0, 3),
            "every number may be the largest");
     vazhettu_ticket(tickets, VAZHETTU_WEIGHT, 7, 1, 60140, 140);
@@ -298,18 +322,23 @@ static void test_add(void) {
 }
 
 static void test_find(void) {
-    expect(finds(vazhettu_find(g, STORE, NONE, UINT32_MAX, UINT16_MAX), VAZHETTU_DONE, 2, 1, UINT32_MAX, UINT32_MAX),
+    expect(finds(vazhettu_find(g, STORE, NONE, UINT32_MAX, UINT16_MAX), VAZHETTU_DONE, 2, 1, UINT32_MAX, UINT32_MAX,
+                 DIRECT),
            "the largest numbers");
-    expect(finds(vazhettu_find(g, STORE, NONE, 1, 7), VAZHETTU_DONE, 2, 0, 0, 0), "bag 7 of lot 1 is not bag 1 of lot 7");
+    expect(finds(vazhettu_find(g, STORE, NONE, 1, 7), VAZHETTU_DONE, 2, 0, 0, 0, DIRECT),
+           "bag 7 of lot 1 is not bag 1 of lot 7");
     expect(answers(add(VAZHETTU_WITHDRAWAL, 2, 7, 0, 0, ALL), VAZHETTU_DONE, 3, 1, 0, 3), "a withdrawal");
-    expect(none_stands(NONE, 2, 2) && stands(NONE, 1, 60140, 140, 2), "leaves nothing of bag 2, and bag 1 as it was");
+    expect(none_stands(NONE, 2, 2, DIRECT) && stands(NONE, 1, 60140, 140, 2, DIRECT),
+           "leaves nothing of bag 2, and bag 1 as it was");
     expect(answers(weigh(1, 60090, 140, ALL), VAZHETTU_DONE, 2, 1, 0, 3), "a bag is weighed again");
     expect(answers(weigh(2, 0, 0, ALL), VAZHETTU_DONE, 4, 1, 0, 3), "and one that was withdrawn");
     for (uint64_t chip = 0; chip <= N; chip++) {
-        uint64_t reads = chip < 3 ? 4 : 3;
+        /* Both bags have their latest ticket in page 2, on chip 2. */
+        uint64_t reads = chip < 3 ? 4 : 3, given = chip == 2 ? PARTIAL : DIRECT, none = chip < 3 ? PARTIAL : DIRECT;
         take_chip(chip);
-        expect(stands(chip, 1, 60090, 140, reads) && stands(chip, 2, 0, 0, reads), "the latest stands, whichever chip is lost");
-        expect(none_stands(chip, 3, reads), "and of bag 3 there is none");
+        expect(stands(chip, 1, 60090, 140, reads, given) && stands(chip, 2, 0, 0, reads, given),
+               "the latest stands, whichever chip is lost");
+        expect(none_stands(chip, 3, reads, none), "and of bag 3 there is none");
         put_back(chip);
     }
 }
@@ -320,7 +349,7 @@ static void test_log_and_collection(void) {
         expect(answers(weigh(3, 50000, 100, 1), VAZHETTU_CUT, 3, 1, 0, 1), "an addition that is cut uses up a page");
     expect(answers(vazhettu_collect(g, STORE, NONE, 3, 1), VAZHETTU_CUT, 0, 0, 0, 1), "their block is being collected");
     expect(refused(weigh(3, 50000, 100, ALL), VAZHETTU_COLLECTION_UNDER_WAY), "no ticket is added meanwhile");
-    expect(stands(NONE, 1, 60090, 140, 3) && stands(0, 1, 60090, 140, 4), "but tickets are found");
+    expect(stands(NONE, 1, 60090, 140, 3, DIRECT) && stands(2, 1, 60090, 140, 4, PARTIAL), "but tickets are found");
     expect(vazhettu_open(g, STORE, NONE, ALL).status == VAZHETTU_DONE, "an open finishes it");
     expect(answers(weigh(3, 50000, 100, ALL), VAZHETTU_DONE, 3, 1, 0, 3), "and then they are added");
 }
@@ -338,7 +367,7 @@ static void test_behind_the_end(void) {
     write_behind(4, 0, 3, 6);
     write_behind(5, 0xff, VAZHETTU_WEIGHT, 6);
     weigh(4, 40000, 0, ALL);
-    expect(stands(NONE, 4, 40000, 0, 5), "the log ends before a ticket that breaks the rules");
+    expect(stands(NONE, 4, 40000, 0, 5, DIRECT), "the log ends before a ticket that breaks the rules");
     expect(weigh(5, 40100, 0, ALL).status == VAZHETTU_DONE, "and takes one more");
     expect(find_refused(NONE, VAZHETTU_BAD_TICKET) && find_refused(0, VAZHETTU_BAD_TICKET), "then that one is found");
     expect(refused(weigh(7, 40200, 0, ALL), VAZHETTU_BAD_TICKET), "also where one more is added");
@@ -346,11 +375,11 @@ static void test_behind_the_end(void) {
     expect(read_page(NONE, 4).status == VAZHETTU_DONE, "reads and writes do not ask for the rules");
     memset(page + 16, 0, 16);
     expect(vazhettu_write(g, STORE, NONE, 4, page, W, ALL).status == VAZHETTU_DONE, "and a write mends the page");
-    expect(stands(NONE, 5, 40100, 0, 5) && none_stands(NONE, 6, 5), "the log ends there again");
+    expect(stands(NONE, 5, 40100, 0, 5, DIRECT) && none_stands(NONE, 6, 5, DIRECT), "the log ends there again");
     weigh(7, 40200, 0, ALL);
-    expect(none_stands(NONE, 6, 6), "a ticket behind the end does not stand");
+    expect(none_stands(NONE, 6, 6, DIRECT), "a ticket behind the end does not stand");
     weigh(8, 40300, 0, ALL);
-    expect(stands(NONE, 6, 0, 0, 6) && stands(NONE, 8, 40300, 0, 6), "until the log has come to it");
+    expect(stands(NONE, 6, 0, 0, 6, DIRECT) && stands(NONE, 8, 40300, 0, 6, DIRECT), "until the log has come to it");
 }
 
 /* Given, the ticket is refused with this number. */
@@ -384,11 +413,11 @@ static void test_tickets_refused(void) {
     struct vazhettu_geometry other = g;
     other.n = 7;
     expect(refused(vazhettu_add(other, STORE, NONE, weight, 16, ALL), VAZHETTU_BAD_GEOMETRY) &&
-               finds(vazhettu_find(other, STORE, NONE, 7, 1), VAZHETTU_BAD_GEOMETRY, 0, 0, 0, 0),
+               finds(vazhettu_find(other, STORE, NONE, 7, 1), VAZHETTU_BAD_GEOMETRY, 0, 0, 0, 0, 0),
            "a geometry outside the limits");
     other.n = 3;
     expect(refused(vazhettu_add(other, STORE, NONE, weight, 16, ALL), VAZHETTU_BAD_BUFFERS) &&
-               finds(vazhettu_find(other, STORE, NONE, 7, 1), VAZHETTU_BAD_BUFFERS, 0, 0, 0, 0),
+               finds(vazhettu_find(other, STORE, NONE, 7, 1), VAZHETTU_BAD_BUFFERS, 0, 0, 0, 0, 0),
            "one that is not the buffers'");
     take_chip(1);
     expect(add_refused(NONE, weight, 16, VAZHETTU_BAD_SPARES) && find_refused(NONE, VAZHETTU_BAD_SPARES), "a chip not named");
@@ -406,10 +435,13 @@ static void test_full_log(void) {
     expect(refused(weigh(1, 1, 0, ALL), VAZHETTU_FULL_LOG), "a log that fills every page is full");
     expect(refused(weigh(1, 0, 1, ALL), VAZHETTU_BAD_TICKET), "which is asked last");
     expect(same_store(), "a full log stays as it is");
-    expect(stands(NONE, 0, 45, 0, 24) && stands(NONE, 2, 47, 0, 24), "all its pages are read, to the last place");
+    expect(stands(NONE, 0, 45, 0, 24, DIRECT) && stands(NONE, 2, 47, 0, 24, DIRECT),
+           "all its pages are read, to the last place");
     for (uint64_t chip = 0; chip <= N; chip++) {
         take_chip(chip);
-        expect(vazhettu_find(g, STORE, chip, 7, 1).gross == 46, "also without one of the chips");
+        struct vazhettu_find_report r = vazhettu_find(g, STORE, chip, 7, 1);
+        expect(r.gross == 46 && r.origin == (chip == 3 ? PARTIAL : DIRECT), "also without one of the chips");
+        expect(vazhettu_find(g, STORE, chip, 7, 9).origin == FULL, "and each has pages that were committed");
         put_back(chip);
     }
     memset(page, 0x5a, W);
@@ -421,6 +453,7 @@ int main(void) {
     store = new_store();
     saved = new_store();
     page = bytes(W);
+    test_origins();
     test_lengths();
     test_format();
     test_write();

@@ -29,6 +29,14 @@ enum { PAGE = 6, STRIPE = PAGE / N, CHIP = 2 };
 /* The chip that is lost, if one is: named in every call from then on. */
 static uint64_t lost = VAZHETTU_NO_CHIP;
 
+/* How a page was got: what is printed beside a weight. */
+static const char *const origins[] = {
+    [VAZHETTU_UNWRITTEN] = "never written",
+    [VAZHETTU_DIRECT] = "off its chip",
+    [VAZHETTU_PARTIAL] = "rebuilt through the partial parity",
+    [VAZHETTU_FULL] = "rebuilt through the full parity",
+};
+
 static void say(const char *what, struct vazhettu_report r) {
     const char *answer = r.status == VAZHETTU_DONE ? "done" : r.status == VAZHETTU_CUT ? "cut" : "refused";
     printf("  %-8s %s", what, answer);
@@ -47,10 +55,12 @@ static void write_page(const char *weight, uint64_t allowance) {
 
 static void read_page(void) {
     uint8_t page[W];
-    struct vazhettu_report r = vazhettu_read(STORE, lost, PAGE, page, sizeof page);
-    say("read", r);
-    if (r.status == VAZHETTU_DONE)
-        printf("  the page says: %s\n", page[0] ? (const char *)page : "nothing");
+    struct vazhettu_read_report r = vazhettu_read(STORE, lost, PAGE, page, sizeof page);
+    if (r.status != VAZHETTU_DONE)
+        printf("  read     refused %d\n", (int)r.status);
+    else
+        printf("  read     done, reads %d: the page says %s (%s)\n", (int)r.reads,
+               page[0] ? (const char *)page : "nothing", origins[r.origin]);
 }
 
 /* Tickets of lot 7, weights in grams. */
@@ -71,10 +81,10 @@ static void find_bag(uint16_t bag) {
     if (r.status != VAZHETTU_DONE)
         printf("  find     refused %d\n", (int)r.status);
     else if (r.standing)
-        printf("  find     done, reads %d: bag %d has %u g gross, %u g tare\n", (int)r.reads, bag, (unsigned)r.gross,
-               (unsigned)r.tare);
-    else
-        printf("  find     done, reads %d: bag %d has no weight\n", (int)r.reads, bag);
+        printf("  find     done, reads %d: bag %d has %u g gross, %u g tare (%s)\n", (int)r.reads, bag,
+               (unsigned)r.gross, (unsigned)r.tare, origins[r.origin]);
+    else /* the origin is the greatest of the log's pages */
+        printf("  find     done, reads %d: bag %d has no weight (%s)\n", (int)r.reads, bag, origins[r.origin]);
 }
 
 int main(void) {
@@ -108,7 +118,7 @@ int main(void) {
     memset(chips + CHIP * VAZHETTU_CHIP_LEN(W, K, B), 0xee, VAZHETTU_CHIP_LEN(W, K, B));
     read_page(); /* 5: the chips do not fit the records, one of them is to be named */
     lost = CHIP;
-    read_page();                               /* rebuilt without it */
+    read_page();                               /* rebuilt without it, and it says so */
     write_page("60.13 kg", VAZHETTU_NO_LIMIT); /* 9: a write needs all chips */
 
     printf("Saturday: a new chip, a new store, and tickets in it\n");
@@ -122,13 +132,15 @@ int main(void) {
     say("open", vazhettu_open(STORE, lost, VAZHETTU_NO_LIMIT));
     withdraw_bag(2, VAZHETTU_NO_LIMIT);          /* so it is made again */
     weigh_bag(4, 140, 60140, VAZHETTU_NO_LIMIT); /* 11: tare is above gross */
+    find_bag(1); /* off its chip */
+    say("commit", vazhettu_commit(STORE, lost, 0, VAZHETTU_NO_LIMIT)); /* an idle hour again */
 
     printf("Sunday: chip 0 is dead, which had the ticket of bag 1\n");
     memset(chips, 0xee, VAZHETTU_CHIP_LEN(W, K, B));
     lost = 0;
     find_bag(1);                                 /* rebuilt without it */
-    find_bag(2);                                 /* withdrawn */
-    find_bag(3);                                 /* as it was weighed */
+    find_bag(2);                                 /* withdrawn: page 0 was rebuilt to know it */
+    find_bag(3);                                 /* as it was weighed, off chip 2 */
     find_bag(4);                                 /* not in the log */
     weigh_bag(4, 60140, 140, VAZHETTU_NO_LIMIT); /* 9: an addition needs all chips */
     return 0;

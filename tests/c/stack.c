@@ -28,6 +28,7 @@ static ucontext_t here, there;
 static enum call call;
 static uint64_t lost, number, allowance;
 static struct vazhettu_report report;
+static struct vazhettu_read_report page_read;
 static struct vazhettu_find_report found;
 
 static void make_call(void) {
@@ -37,9 +38,6 @@ static void make_call(void) {
         break;
     case OPEN:
         report = vazhettu_open(STORE, lost, allowance);
-        break;
-    case READ:
-        report = vazhettu_read(STORE, lost, number, page, W);
         break;
     case WRITE:
         report = vazhettu_write(STORE, lost, number, page, W, allowance);
@@ -55,7 +53,12 @@ static void make_call(void) {
     }
 }
 
-/* By itself: its longer answer would add to the stack of every call. */
+/* These two by themselves: a longer answer would add to the stack of every call. */
+static void make_read(void) {
+    page_read = vazhettu_read(STORE, lost, number, page, W);
+    report.status = page_read.status;
+}
+
 static void make_find(void) {
     found = vazhettu_find(STORE, lost, 7, (uint16_t)number);
     report.status = found.status;
@@ -70,7 +73,7 @@ static void on_own_stack(enum call kind, uint64_t chip, uint64_t request, uint64
     there.uc_stack.ss_sp = stack;
     there.uc_stack.ss_size = STACK;
     there.uc_link = &here;
-    makecontext(&there, kind == FIND ? make_find : make_call, 0);
+    makecontext(&there, kind == FIND ? make_find : kind == READ ? make_read : make_call, 0);
     swapcontext(&here, &there);
     while (untouched < STACK && stack[untouched] == UNTOUCHED)
         untouched++;

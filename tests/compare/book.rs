@@ -1,8 +1,9 @@
 //! A store beside its price book, which knows no chips.
 
-use crate::calls::{Answer, Call, Comparison};
+use crate::calls::{Call, Comparison};
 use crate::generator::ALL;
 use crate::images::{fill_chip, FILLINGS};
+use crate::library::Answer;
 use crate::random::Random;
 use crate::reference::*;
 use crate::tickets::{broken, Log};

@@ -4,12 +4,12 @@
 use crate::coverage::Coverage;
 use crate::generator::{ALL, LARGE};
 use crate::guard_pages::{PageGuarded, Placement};
-use crate::library::{self, LentImages};
+use crate::library::{self, Answer, LentImages};
 use crate::log_notes::Walk;
 use crate::notes;
 use crate::plan::Plan;
 use crate::random::Random;
-use crate::reference::{self, Finding, Geometry, Images, Status, Weight, CUT, DONE, NO_CHIP};
+use crate::reference::{self, Geometry, Images, Status, CUT, DONE, NO_CHIP};
 use crate::strange::strange_things;
 use std::process::exit;
 
@@ -26,35 +26,6 @@ pub enum Call {
     Collect { lost: u64, chip: u64, allowance: u64 },
     Add { lost: u64, ticket: Vec<u8>, allowance: u64 },
     Find { lost: u64, lot: u32, bag: u16 },
-}
-
-/// What a call answers. A question alone finds something: 1 if a weight stands, its gross and its tare.
-#[derive(Clone, Copy, PartialEq, Eq)]
-pub struct Answer {
-    pub status: Status,
-    pub found: [u64; 3],
-}
-
-impl From<Status> for Answer {
-    fn from(status: Status) -> Answer {
-        Answer { status, found: [0; 3] }
-    }
-}
-
-impl From<Finding> for Answer {
-    fn from(Finding { status, weight }: Finding) -> Answer {
-        let found = weight.map_or([0; 3], |Weight { gross, tare }| [1, gross as u64, tare as u64]);
-        Answer { status, found }
-    }
-}
-
-impl std::fmt::Debug for Answer {
-    fn fmt(&self, f: &mut std::fmt::Formatter) -> std::fmt::Result {
-        match self.found {
-            [0, 0, 0] => write!(f, "{:?}", self.status),
-            found => write!(f, "{:?} with {found:?}", self.status),
-        }
-    }
 }
 
 impl Call {
@@ -178,7 +149,10 @@ impl Call {
         let status = match *self {
             Call::Format { allowance } => reference::format(g, images, allowance),
             Call::Open { lost, allowance } => reference::open(g, images, lost, allowance),
-            Call::Read { lost, page, .. } => reference::read(g, images, lost, page, &mut bytes),
+            Call::Read { lost, page, .. } => {
+                let reading = reference::read(g, images, lost, page, &mut bytes);
+                return (reading.into(), bytes);
+            }
             Call::Write { lost, page, allowance, .. } => {
                 reference::write(g, images, lost, page, &bytes, allowance)
             }
@@ -197,17 +171,14 @@ impl Call {
         let status = match *self {
             Call::Format { allowance } => library::format(g, lent, allowance),
             Call::Open { lost, allowance } => library::open(g, lent, lost, allowance),
-            Call::Read { lost, page, .. } => library::read(g, lent, lost, page, bytes),
+            Call::Read { lost, page, .. } => return library::read(g, lent, lost, page, bytes),
             Call::Write { lost, page, allowance, .. } => {
                 library::write(g, lent, lost, page, bytes, allowance)
             }
             Call::Commit { lost, stripe, allowance } => library::commit(g, lent, lost, stripe, allowance),
             Call::Collect { lost, chip, allowance } => library::collect(g, lent, lost, chip, allowance),
             Call::Add { lost, allowance, .. } => library::add(g, lent, lost, bytes, allowance),
-            Call::Find { lost, lot, bag } => {
-                let (status, found) = library::find(g, lent, lost, lot, bag);
-                return Answer { status, found };
-            }
+            Call::Find { lost, lot, bag } => return library::find(g, lent, lost, lot, bag),
         };
         status.into()
     }

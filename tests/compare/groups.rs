@@ -245,6 +245,18 @@ fn rebuilt_logs() -> Group {
 }
 
 // ---------------------------------------------------------------------------------------------
+// Origins
+// ---------------------------------------------------------------------------------------------
+
+fn origins() -> [Group; 2] {
+    let said = table("origins", &SAYING.map(|saying| saying.0), &ORIGINS, |what, origin| {
+        let (_, lowest) = *SAYING.iter().find(|saying| saying.0 == what)?;
+        ORIGINS[lowest..].contains(&origin).then(|| format!("origin {origin}: {what}"))
+    });
+    [said, points("origin", &ORIGIN)]
+}
+
+// ---------------------------------------------------------------------------------------------
 // Images
 // ---------------------------------------------------------------------------------------------
 
@@ -299,6 +311,7 @@ pub fn groups() -> Vec<Group> {
     ]);
     groups.extend(chips());
     groups.extend(logs());
+    groups.extend(origins());
     groups.extend([points("images", &MADE_IMAGES), strange_images()]);
     groups.extend(damages());
     groups.extend([

@@ -1,8 +1,10 @@
 //! What an addition or a question covered: the log that it went over, what it found there, and what it was refused
 //! for. The log is told from the pages once more, and the reference is held to it.
 
-use crate::calls::{Answer, Call};
+use crate::calls::Call;
 use crate::coverage::Coverage;
+use crate::library::Answer;
+use crate::origins::{note_refused_find, origin_of, Asked};
 use crate::reference::*;
 use crate::tickets::{broken, Log};
 
@@ -11,27 +13,21 @@ pub struct Walk<'a> {
     view: View<'a>,
     lost: u64,
     pub log: Log,
-    /// Tickets of it came through the partial parity, or through the full one.
-    partial: bool,
-    parity: bool,
+    /// How its pages were got, the one with its end included.
+    origins: Vec<u64>,
 }
 
 impl Walk<'_> {
     /// The images are sound, and the lost chip is one of theirs, or none.
     pub fn new(view: View, lost: u64) -> Walk {
-        let mut walk = Walk { view, lost, log: Log::default(), partial: false, parity: false };
+        let mut walk = Walk { view, lost, log: Log::default(), origins: Vec::new() };
         let chip = (lost != NO_CHIP).then_some(lost as usize);
         let mut work = vec![0; view.shape.w];
         for stripe in 0..view.shape.s {
             let record = view.record(stripe);
             for member in 0..view.shape.n {
-                let page = view.fetch(stripe, &record, member, chip, &mut work).0;
-                let rebuilt = record.current[member] != NONE
-                    && page[0] != 0
-                    && chip == Some(view.shape.member_chip(stripe, member));
-                walk.partial |= rebuilt && record.bit(member);
-                walk.parity |= rebuilt && !record.bit(member);
-                if !walk.log.goes_on(page) {
+                walk.origins.push(origin_of(view.shape, stripe, &record, member, lost));
+                if !walk.log.goes_on(view.fetch(stripe, &record, member, chip, &mut work).0) {
                     return walk;
                 }
             }
@@ -63,6 +59,16 @@ impl Walk<'_> {
 
     fn pages(&self) -> usize {
         self.view.shape.n * self.view.shape.s
+    }
+
+    /// Whether tickets of it are in a page that was got so.
+    fn has_tickets_of(&self, origin: u64) -> bool {
+        self.origins[..self.log.bytes.len().div_ceil(self.w())].contains(&origin)
+    }
+
+    /// The byte of the log at which one of its tickets begins.
+    fn offset(&self, ticket: &[u8]) -> usize {
+        ticket.as_ptr() as usize - self.log.bytes.as_ptr() as usize
     }
 
     /// A written page that is on no lost chip; else nothing.
@@ -153,11 +159,20 @@ impl Walk<'_> {
         if lost == NO_CHIP {
             return coverage.hit("find with no chip lost");
         }
-        let none = !self.partial && !self.parity && !self.log.bytes.is_empty();
+        let [partial, parity] = [2, 3].map(|origin| self.has_tickets_of(origin));
+        let none = !partial && !parity && !self.log.bytes.is_empty();
         coverage.hit_if(none, "find with a chip lost, no ticket of the log on it");
-        coverage.hit_if(self.partial && self.parity, "find through the partial parity and the full one");
-        coverage.hit_if(self.partial, &format!("log through partial, chip {lost}, N = {n}"));
-        coverage.hit_if(self.parity, &format!("log through parity, chip {lost}, N = {n}"));
+        coverage.hit_if(partial && parity, "find through the partial parity and the full one");
+        coverage.hit_if(partial, &format!("log through partial, chip {lost}, N = {n}"));
+        coverage.hit_if(parity, &format!("log through parity, chip {lost}, N = {n}"));
+    }
+
+    fn note_origin(&self, coverage: &mut Coverage, lot: u32, bag: u16, said: u64) -> Result<(), String> {
+        let tickets = self.log.of_bag(lot, bag);
+        let page = |ticket: &[u8]| self.offset(ticket) / self.w();
+        let tickets: Vec<_> = tickets.into_iter().map(|t| (page(t), t[0] == WEIGHT)).collect();
+        let asked = Asked { origins: &self.origins, full: self.log.is_full(), tickets: &tickets };
+        asked.note(coverage, said)
     }
 
     /// No ticket has the lot and the bag.
@@ -182,9 +197,8 @@ impl Walk<'_> {
             return;
         }
         let Ticket { gross, tare, .. } = Ticket::from_bytes(latest);
-        let offset = |ticket: &[u8]| ticket.as_ptr() as usize - self.log.bytes.as_ptr() as usize;
-        let (at, end) = (offset(latest), self.log.bytes.len());
-        let earlier_page = weights.any(|t| offset(t) / self.w() < at / self.w());
+        let (at, end) = (self.offset(latest), self.log.bytes.len());
+        let earlier_page = weights.any(|t| self.offset(t) / self.w() < at / self.w());
         let after = &self.log.bytes[at + TICKET_BYTES..];
         let later = |f: &dyn Fn(&[u8]) -> bool| after.chunks(TICKET_BYTES).any(f);
         let (same_bag, same_lot) = (
@@ -271,7 +285,7 @@ pub fn note_find(
         return Err(format!("{:?}, the log has {:?}", answer.found, walk.log.standing(lot, bag)));
     }
     walk.note_find(coverage, lot, bag);
-    Ok(())
+    walk.note_origin(coverage, lot, bag, answer.origin)
 }
 
 /// An addition or a question that is refused 11 or 12.
@@ -324,4 +338,7 @@ fn note_found(coverage: &mut Coverage, walk: &Walk, name: &str, place: usize, ti
     }
     let rebuilt = walk.chip(at / walk.w()) as u64 == walk.lost;
     coverage.hit_if(rebuilt, "bad ticket in a page of the lost chip: find");
+    if name == "find" {
+        note_refused_find(coverage, &walk.origins[..=at / walk.w()]);
+    }
 }

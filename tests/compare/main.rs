@@ -28,6 +28,7 @@ mod lists;
 mod log_notes;
 mod logs;
 mod notes;
+mod origins;
 mod paper;
 mod plan;
 mod points;

@@ -1,17 +1,19 @@
 //! What a call covered, told from the images before it and its answer.
 
-use crate::calls::{Answer, Call};
+use crate::calls::Call;
 use crate::coverage::Coverage;
 use crate::generator::ALL;
 use crate::geometries::{limits_reached, wrapped_lengths};
+use crate::library::Answer;
 use crate::log_notes::{self, Walk};
+use crate::origins;
 use crate::plan::Plan;
 use crate::points::{AMPLE, IMAGES, REQUESTS};
 use crate::reference::*;
 use crate::tickets::broken;
 
 /// Counts the points that the call came by; `bytes` is its buffer or data as it is left. An error means that the
-/// coverage and the reference are at odds on the length of a list, or on a log.
+/// coverage and the reference are at odds on the length of a list, on a log, or on how a page was got.
 pub fn note(
     coverage: &mut Coverage,
     g: Geometry,
@@ -35,8 +37,12 @@ pub fn note(
     note_numbers(coverage, shape, call, status.status);
     if !made {
         note_refusal(coverage, shape, before, call, status.status);
-        return match status.status {
-            11 | 12 => log_notes::note_refused(coverage, before.view(shape), call, status.status),
+        return match (status.status, call) {
+            (11 | 12, _) => log_notes::note_refused(coverage, before.view(shape), call, status.status),
+            (8, &Call::Read { lost, page, .. }) => {
+                origins::note_refused_read(coverage, before.view(shape), lost, page);
+                Ok(())
+            }
             _ => Ok(()),
         };
     }
@@ -62,6 +68,7 @@ fn note_list(
         Call::Open { lost, allowance } => return Ok(note_open(coverage, view, lost, allowance, status)),
         Call::Read { lost, page, .. } => {
             note_read(coverage, view, lost, page, bytes);
+            origins::note_read(coverage, view, lost, page, answer.origin)?;
             return Ok(0);
         }
         Call::Find { lost, lot, bag } => {

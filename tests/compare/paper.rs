@@ -1,15 +1,16 @@
 //! The worked cases of document 01, with its own numbers and bytes, through the library and through the reference; and
-//! what document 02 says of tickets, worked out.
+//! what document 02 says of tickets and of origins, worked out.
 
 use crate::calls::{Call, Comparison};
 use crate::generator::ALL;
+use crate::library::Answer;
 use crate::random::Random;
 use crate::reference::{Geometry, Images, Status, CUT, DONE, NO_CHIP};
 
 type Case = fn(&mut Comparison);
 
-/// Those of its sections "Bags on the pan" and "Thumbs on the scale", and of request 1.
-pub const CASES: [(&str, Case); 24] = [
+/// Those of its sections "Bags on the pan" and "Thumbs on the scale", and of requests 1 and 2.
+pub const CASES: [(&str, Case); 26] = [
     ("paper: the seven lines of the bench program", seven_lines),
     ("paper: every byte after the seven lines", every_byte),
     ("paper: every byte after a format", after_format),
@@ -34,6 +35,8 @@ pub const CASES: [(&str, Case); 24] = [
     ("paper: tickets that break the rules, given and found", breaking_tickets),
     ("paper: a log that fills every page", full_log),
     ("paper: a bad ticket behind the log's end", behind_the_end),
+    ("paper: how a page was got", origins_of_pages),
+    ("paper: a ticket given carries its page's origin, none the log's last", origins_of_findings),
 ];
 
 /// N and the cost for p = 1, 2, ..
@@ -116,24 +119,35 @@ impl ComparedStore<'_> {
         counts
     }
 
-    /// The page as it reads, with the pages read for it.
-    fn read(&mut self, page: u64) -> (Vec<u8>, u64) {
-        let reads = self.call(Call::Read { lost: self.lost, page, buffer: vec![0x77; 16] }).1[0];
-        (self.to.page(&mut self.random, self.g, &mut self.images, self.lost, page), reads)
+    fn answer(&mut self, call: Call) -> Answer {
+        self.to.answer(&mut self.random, self.g, &mut self.images, &call)
     }
 
-    /// The page reads as the byte, also where a chip is lost and its bytes are gone.
-    fn reads_as(&mut self, lost: u64, page: u64, byte: u8, reads: u64) {
+    /// The page as it reads, with what the read answers.
+    fn read(&mut self, page: u64) -> (Vec<u8>, Answer) {
+        let answer = self.answer(Call::Read { lost: self.lost, page, buffer: vec![0x77; 16] });
+        (self.to.page(&mut self.random, self.g, &mut self.images, self.lost, page), answer)
+    }
+
+    /// Where a chip is lost its bytes are gone meanwhile.
+    fn without<T>(&mut self, lost: u64, then: impl FnOnce(&mut Self) -> T) -> T {
         let own = self.images.chips.clone();
         if lost != NO_CHIP {
             let len = (self.g.b * self.g.k * 24) as usize;
             self.images.chips[lost as usize * len..][..len].fill(0xc3);
         }
         self.lost = lost;
-        let found = self.read(page);
-        self.holds(found == (vec![byte; 16], reads), &format!("page {page} is {byte} after {reads} reads"));
+        let found = then(self);
         self.lost = NO_CHIP;
         self.images.chips = own;
+        found
+    }
+
+    /// The page reads as the byte, also where a chip is lost.
+    fn reads_as(&mut self, lost: u64, page: u64, byte: u8, reads: u64) {
+        let (bytes, answer) = self.without(lost, |store| store.read(page));
+        let as_said = bytes == [byte; 16] && answer.status.reads == reads;
+        self.holds(as_said, &format!("page {page} is {byte} after {reads} reads"));
     }
 
     /// The 24 bytes of a page of a chip.
@@ -178,8 +192,8 @@ const LINES: [(&str, &str); 7] = [
     ("w 2 0f", "w 2 0 1 0"),
     ("w 1 11", "w 1 1 1 0"),
     ("x 1", "x 1"),
-    ("r 1", "r 1 11 1 0 0"),
-    ("r 0", "r 0 00 0 0 0"),
+    ("r 1", "r 1 11 1 0 0 2"),
+    ("r 0", "r 0 00 0 0 0 0"),
     ("w 3 22", "w 3 refused 9"),
 ];
 
@@ -202,8 +216,8 @@ fn obey(store: &mut ComparedStore, line: &str) -> String {
             format!("{echo} {}", counted(store.write_allowed(number, byte, 65_535)))
         }
         _ => {
-            let (bytes, reads) = store.read(number);
-            format!("{echo} {:02x} {}", bytes[0], counted((DONE, [reads, 0, 0, 0])))
+            let (bytes, Answer { status, origin, .. }) = store.read(number);
+            format!("{echo} {:02x} {} {origin}", bytes[0], counted((DONE, [status.reads, 0, 0, 0])))
         }
     }
 }
@@ -454,8 +468,7 @@ impl ComparedStore<'_> {
 
     /// The question is answered so, with so many reads: 1 if a weight stands, gross and tare.
     fn finds(&mut self, lost: u64, lot: u32, bag: u16, found: [u64; 3], reads: u64) {
-        let call = Call::Find { lost, lot, bag };
-        let answer = self.to.answer(&mut self.random, self.g, &mut self.images, &call);
+        let answer = self.answer(Call::Find { lost, lot, bag });
         let as_said = answer.found == found && answer.status == Status { reads, ..Status::default() };
         self.holds(as_said, &format!("lot {lot}, bag {bag}, {found:?} after {reads} reads, not {answer:?}"));
     }
@@ -596,4 +609,76 @@ fn behind_the_end(to: &mut Comparison) {
     store.refuses(&good, 11, 11);
     let page = store.to.page(&mut store.random, store.g, &mut store.images, NO_CHIP, 0);
     store.holds(page == [ticket(1, 3, 7, 8, 1), good, bad].concat(), "other bytes are kept");
+}
+
+// ---------------------------------------------------------------------------------------------
+// Origins
+// ---------------------------------------------------------------------------------------------
+
+impl ComparedStore<'_> {
+    /// A page that reads, with this origin.
+    fn page_from(&mut self, lost: u64, page: u64, origin: u64) {
+        let answer = self.without(lost, |store| store.read(page).1);
+        let what = format!("page {page} with lost chip {lost} has origin {origin}, not {}", answer.origin);
+        self.holds(answer.origin == origin, &what);
+    }
+
+    /// What stands for the bag of lot 7, with this origin; 0 grams where nothing does.
+    fn bag_from(&mut self, lost: u64, bag: u16, gross: u64, origin: u64) {
+        let answer = self.without(lost, |store| store.answer(Call::Find { lost, lot: 7, bag }));
+        let as_said = answer.status.status == DONE && (answer.found[1], answer.origin) == (gross, origin);
+        self.holds(
+            as_said,
+            &format!("bag {bag} with lost chip {lost} has {gross} g of {origin}, not {answer:?}"),
+        );
+    }
+}
+
+/// "never written, read directly, rebuilt through the partial parity, rebuilt through the full parity": pages 0 and 1
+/// are written and committed, then page 0 again. Page 4 is on chip 0, too.
+fn origins_of_pages(to: &mut Comparison) {
+    let mut store = ComparedStore::new(to, bench_geometry());
+    store.write(0, 0x21);
+    store.write(1, 0x42);
+    store.page_from(0, 0, 2);
+    store.commit(0);
+    store.page_from(0, 0, 3);
+    store.write(0, 0x84);
+    let said = [(NO_CHIP, [1, 1, 0]), (0, [2, 1, 0]), (1, [1, 3, 0]), (2, [1, 1, 0]), (4, [1, 1, 0])];
+    for (lost, origins) in said {
+        for (page, origin) in [0, 1, 4].into_iter().zip(origins) {
+            store.page_from(lost, page, origin);
+        }
+    }
+    let refused = store.answer(Call::Read { lost: 0, page: 0, buffer: vec![0x77; 15] });
+    store
+        .holds(refused == Answer::from(Status { status: 8, ..Status::default() }), "a refused read has none");
+}
+
+/// "a ticket given carries its page's, any other reading of the log the last in that order among its pages": one
+/// ticket to a page, bag 1 in pages 0 and 1, bag 2 in page 2 and withdrawn in page 3. Page 4 has the log's end, on
+/// chip 0 as page 0.
+fn origins_of_findings(to: &mut Comparison) {
+    let mut store = ComparedStore::new(to, bench_geometry());
+    [NO_CHIP, 0, 1].into_iter().for_each(|lost| store.bag_from(lost, 1, 0, 0));
+    let tickets =
+        [ticket(1, 1, 7, 80, 8), ticket(1, 1, 7, 90, 8), ticket(1, 2, 7, 70, 7), ticket(2, 2, 7, 0, 0)];
+    tickets.iter().for_each(|ticket| {
+        store.add(ticket);
+    });
+    // with no chip lost, with that of page 0, of page 1, of page 2, and with one that has no page of the log
+    for (lost, given, none) in [(NO_CHIP, 1, 1), (0, 1, 2), (1, 2, 2), (2, 1, 2), (4, 1, 1)] {
+        store.bag_from(lost, 1, 90, given);
+        store.bag_from(lost, 2, 0, none);
+        store.bag_from(lost, 3, 0, none);
+    }
+    store.commit(0);
+    store.bag_from(0, 2, 0, 3);
+    store.bag_from(1, 1, 90, 3);
+    store.write_bytes(0, &tickets[0]);
+    store.bag_from(0, 2, 0, 2);
+    store.write_bytes(4, &[0; 16]);
+    store.commit(1);
+    store.bag_from(0, 1, 90, 1);
+    store.bag_from(0, 2, 0, 3);
 }

@@ -265,6 +265,38 @@ pub const FIND: [&str; 34] = [
     "find a weight, a bag alike in its lower byte behind it",
 ];
 
+/// How a page was got, in the order of the numbers that are said.
+pub const ORIGINS: [&str; 4] =
+    ["never written", "direct", "through the partial parity", "through the full parity"];
+
+/// What says an origin, and the lowest that it can say: a page with a ticket was written, and so was every page of a
+/// full log.
+pub const SAYING: [(&str, usize); 6] = [
+    ("read", 0),
+    ("find a weight", 1),
+    ("find a weight, the log full", 1),
+    ("find none, no such ticket", 0),
+    ("find none, withdrawn", 1),
+    ("find none, the log full", 1),
+];
+
+pub const ORIGIN: [&str; 14] = [
+    "origin of a read never written, on the lost chip",
+    "origin of a find, a weight in a page of a lower one than the greatest",
+    "origin of a find, weighed before in a page of a higher one",
+    "origin of a find, weighed before in a page of a lower one",
+    "origin of a find, withdrawn in a page of a lower one",
+    "origin of a find, none, of the page with the log's end alone",
+    "origin of a find, none, of a page before one never written",
+    "origin of a find, none, of a page before a written one with the log's end",
+    "origin of a find, none, of the last page alone, the log full",
+    "origin of a find, none, of a page before the last, the log full",
+    "origin of a read refused 8, its page direct",
+    "origin of a read refused 8, its page on the lost chip",
+    "origin of a find refused 11, its pages direct",
+    "origin of a find refused 11, a page on the lost chip",
+];
+
 /// The places of a ticket that breaks a rule, in the log of an addition and of a question.
 pub const BAD_PLACES: [&str; 6] = [
     "bad ticket first of the log",

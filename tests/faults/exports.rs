@@ -1,7 +1,7 @@
 //! The calls for C over the crates as Rust: pointers and lengths, as `include/vazhettu.h` has them. A call
 //! that panics aborts the program, and so does one that takes longer than any call does.
 
-use answers::{FindReport, Report};
+use answers::{FindReport, ReadReport, Report};
 use layout::Geometry;
 use std::sync::Once;
 

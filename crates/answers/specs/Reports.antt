@@ -4,6 +4,7 @@ use Rattle.steps.specs.declared.Counts.{Counts}
 use Rattle.rules.specs.declared.Standing.{Standing}
 use Rattle.rules.specs.declared.Standing.the-variants.{Weighed, Nothing}
 use Rattle.answers.specs.declared.Report.{Report}
+use Rattle.answers.specs.declared.ReadReport.{ReadReport}
 use Rattle.answers.specs.declared.FindReport.{FindReport}
 
 -- a number and counts
@@ -15,6 +16,18 @@ reportOf status n =
       programs = n .programs;
       erases = n .erases;
       stores = n .stores;
+    }
+
+-- a number, counts and the number of how a page was got
+abbrev pub originReportOf : ℕ → Counts → ℕ → ReadReport
+originReportOf status n origin =
+    record {
+      status = status;
+      reads = n .reads;
+      programs = n .programs;
+      erases = n .erases;
+      stores = n .stores;
+      origin = origin;
     }
 
 -- 1 where a weight stands, else 0
@@ -31,9 +44,9 @@ abbrev pub tareGrams : Standing → ℕ
 tareGrams (Weighed w) = w .tare
 tareGrams Nothing = 0
 
--- a number, counts and what stands
-abbrev pub standingReportOf : ℕ → Counts → Standing → FindReport
-standingReportOf status n x =
+-- a number, counts, what stands, and the number of how the log's pages were got
+abbrev pub standingReportOf : ℕ → Counts → Standing → ℕ → FindReport
+standingReportOf status n x origin =
     record {
       status = status;
       reads = n .reads;
@@ -43,4 +56,5 @@ standingReportOf status n x =
       standing = standingNumber x;
       gross = grossGrams x;
       tare = tareGrams x;
+      origin = origin;
     }

@@ -83,13 +83,15 @@ fn write(chips: &mut [u8], records: &mut [u8], slots: &mut [u8], lost: u64, page
     say_answer(answer);
 }
 
+// The line of a page that is read ends with how it was got: document 02, 2.
 fn read(chips: &[u8], records: &[u8], slots: &[u8], lost: u64, page: u64) {
     let mut bytes = [0u8; 16];
     let answer = calls::read(geometry(), chips, records, slots, lost, page, &mut bytes);
     match answer {
-        Reading::Done(c) => {
+        Reading::Done(c, o) => {
             say_byte(first(&bytes));
             say_counts(c);
+            say_number(answers::origin_number(o));
         }
         Reading::Refused(r) => say_refusal(r),
     }

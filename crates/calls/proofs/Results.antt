@@ -140,7 +140,7 @@ module _ (g : Geometry) (s : Images) (lost : ℕ) where
 
     pub read-done : {bytes : List ℕ} {reads : ℕ} {origin : Origin} → checked (readRows l s lost page buffer) ≡ Passed
         → record { bytes = bytes; reads = reads; origin = origin } ≡ fetchMember l s lost (page / g .n) (page % g .n)
-        → _≡_ {A = ReadOutcome} (record { answer = ReadDone (record { reads = reads; programs = 0; erases = 0; stores = 0 }); buffer = bytes }) (readCall l s lost page buffer)
+        → _≡_ {A = ReadOutcome} (record { answer = ReadDone (record { reads = reads; programs = 0; erases = 0; stores = 0 }) origin; buffer = bytes }) (readCall l s lost page buffer)
     unfolding readCall fetch
     read-done e f = rw e (ap readInto f)
 

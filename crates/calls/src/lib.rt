@@ -120,12 +120,16 @@ pub fn read(
     let j = (page / g.n) as usize;
     let m = (page % g.n) as usize;
     let got = read_member(buffer, chips, records, slots, g, lost as usize, j, m);
-    Reading::Done(Counts {
-        reads: got.reads,
-        programs: 0,
-        erases: 0,
-        stores: 0,
-    })
+    let origin = got.origin;
+    Reading::Done(
+        Counts {
+            reads: got.reads,
+            programs: 0,
+            erases: 0,
+            stores: 0,
+        },
+        origin,
+    )
 }
 
 // Writes a page.

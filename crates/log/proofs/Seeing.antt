@@ -21,8 +21,7 @@ use Rattle.bytes.specs.Units.{part, unit}
 use Rattle.bytes.proofs.Lists.{number-two, number-four}
 use Rattle.bytes.proofs.Units.{part-unit, getD-unit}
 use Rattle.rules.specs.declared.Ticket.{Ticket}
-use Rattle.rules.specs.declared.Standing.{Standing}
-use Rattle.rules.specs.Tickets.{ticketBytes, ticketOf, ticketSound, isFor, weightOf}
+use Rattle.rules.specs.Tickets.{ticketBytes, ticketOf, ticketSound, isFor}
 use Rattle.log.specs.declared.Shown.{Shown}
 use Rattle.log.specs.Walks.{Seen, isPlain, ticketsIn, PageShows}
 
@@ -69,57 +68,64 @@ module _ (x : ℕ → Ticket) (lot bag : ℕ) where
   seen-more {n} {latest} {found} s h =
       rw add-one (record { sound = rw (s .sound, h); told = last-by found (isFor lot bag (x n)) n latest (s .told) })
 
-  -- what stands after n tickets, where `first` stood
-  abbrev pub stood : Standing → ℕ → Standing
-  stood first n = whenFound (lastBelow n (λ t. isFor lot bag (x t))) (λ t. weightOf (x t)) first
+  -- what stands after n tickets, where `first` stood and v t is what ticket t lets stand
+  module _ {A : Type 0} (v : ℕ → A) where
+    abbrev pub stood : A → ℕ → A
+    stood first n = whenFound (lastBelow n (λ t. isFor lot bag (x t))) v first
 
-  stood-more : (first : Standing) (n : ℕ) → stood first (suc n) ≡ cond (isFor lot bag (x n)) (weightOf (x n)) (stood first n)
+    stood-more : (first : A) (n : ℕ) → stood first (suc n) ≡ cond (isFor lot bag (x n)) (v n) (stood first n)
+    unfolding lastBelow whenFound
+    stood-more first n = by-test (isFor lot bag (x n)) (λ e. rw e) (λ e. rw e)
+
+    -- as the code tells it
+    pub stood-is : {n latest : ℕ} {found : Bool} (first : A) → Seen x lot bag n found latest → cond found (v latest) first ≡ stood first n
+    unfolding whenFound
+    stood-is {found = found} first s = by-test found (λ e. rw (e, sym (rw e at (s .told)))) (λ e. rw (e, sym (rw e at (s .told))))
+
+module _ (lot bag : ℕ) {A : Type 0} where
+  stood-cong : (x y : ℕ → Ticket) (v w : ℕ → A) (first : A) (n : ℕ) → ((k : ℕ) → k < n → (x k ≡ y k) × (v k ≡ w k))
+      → stood x lot bag v first n ≡ stood y lot bag w first n
   unfolding lastBelow whenFound
-  stood-more first n = by-test (isFor lot bag (x n)) (λ e. rw e) (λ e. rw e)
+  stood-cong x y v w first zero h = refl
+  stood-cong x y v w first (suc n) h =
+      rw (stood-more x lot bag v first n, stood-more y lot bag w first n, h n (omega arith) .0, h n (omega arith) .1, stood-cong x y v w first n (λ k b. h k (omega arith)))
 
-  -- as the code tells it
-  pub stood-is : {n latest : ℕ} {found : Bool} (first : Standing) → Seen x lot bag n found latest
-      → cond found (weightOf (x latest)) first ≡ stood first n
-  unfolding whenFound
-  stood-is {found = found} first s = by-test found (λ e. rw (e, sym (rw e at (s .told)))) (λ e. rw (e, sym (rw e at (s .told))))
-
-module _ (lot bag : ℕ) where
-  stood-cong : (x y : ℕ → Ticket) (first : Standing) (n : ℕ) → ((k : ℕ) → k < n → x k ≡ y k) → stood x lot bag first n ≡ stood y lot bag first n
+  stood-append : (x : ℕ → Ticket) (v : ℕ → A) (first : A) (a n : ℕ)
+      → stood x lot bag v first (a + n) ≡ stood (λ k. x (a + k)) lot bag (λ k. v (a + k)) (stood x lot bag v first a) n
   unfolding lastBelow whenFound
-  stood-cong x y first zero h = refl
-  stood-cong x y first (suc n) h =
-      rw (stood-more x lot bag first n, stood-more y lot bag first n, h n (omega arith), stood-cong x y first n (λ k b. h k (omega arith)))
-
-  stood-append : (x : ℕ → Ticket) (first : Standing) (a n : ℕ) → stood x lot bag first (a + n) ≡ stood (λ k. x (a + k)) lot bag (stood x lot bag first a) n
-  unfolding lastBelow whenFound
-  stood-append x first a zero = rw add-zero
-  stood-append x first a (suc n) =
-      rw (add-suc, stood-more x lot bag first (a + n), stood-more (λ k. x (a + k)) lot bag (stood x lot bag first a) n, stood-append x first a n)
+  stood-append x v first a zero = rw add-zero
+  stood-append x v first a (suc n) =
+      rw (
+        add-suc,
+        stood-more x lot bag v first (a + n),
+        stood-more (λ k. x (a + k)) lot bag (λ k. v (a + k)) (stood x lot bag v first a) n,
+        stood-append x v first a n,
+      )
 
   -- the first n tickets are sound, and let this stand
-  pub record StandsTo (x : ℕ → Ticket) (first : Standing) (n : ℕ) (last : Standing) : Type 0 where
+  pub record StandsTo (x : ℕ → Ticket) (v : ℕ → A) (first : A) (n : ℕ) (last : A) : Type 0 where
     pub sound : allBelow n (λ t. ticketSound (x t)) ≡ true
-    pub stands : last ≡ stood x lot bag first n
+    pub stands : last ≡ stood x lot bag v first n
 
-  pub stands-none : (x : ℕ → Ticket) (first : Standing) → StandsTo x first 0 first
+  pub stands-none : (x : ℕ → Ticket) (v : ℕ → A) (first : A) → StandsTo x v first 0 first
   unfolding allBelow lastBelow whenFound
-  stands-none x first = record { sound = refl; stands = refl }
+  stands-none x v first = record { sound = refl; stands = refl }
 
   -- the tickets y of a page behind a others
-  pub seen-page : {x y : ℕ → Ticket} {first mid last : Standing} {a n latest : ℕ} {found : Bool} → ((k : ℕ) → k < n → x (a + k) ≡ y k)
-      → StandsTo x first a mid → Seen y lot bag n found latest → last ≡ stood y lot bag mid n → StandsTo x first (a + n) last
-  seen-page {x} {y} {first} {mid} {last} {a} {n} h s t e = record {
+  pub seen-page : {x y : ℕ → Ticket} {v w : ℕ → A} {first mid last : A} {a n latest : ℕ} {found : Bool} → ((k : ℕ) → k < n → (x (a + k) ≡ y k) × (v (a + k) ≡ w k))
+      → StandsTo x v first a mid → Seen y lot bag n found latest → last ≡ stood y lot bag w mid n → StandsTo x v first (a + n) last
+  seen-page {x} {y} {v} {w} {first} {mid} {last} {a} {n} h s t e = record {
     sound = all-true (a + n) (λ k. ticketSound (x k)) (λ k b.
         by-order k a
         (λ low. all-at a (λ i. ticketSound (x i)) (s .sound) k low)
         (λ high.
         let e : a + (k - a) ≡ k = omega arith in
-        rw (sym e, h (k - a) (omega arith)) (all-at n (λ i. ticketSound (y i)) (t .sound) (k - a) (omega arith))));
+        rw (sym e, h (k - a) (omega arith) .0) (all-at n (λ i. ticketSound (y i)) (t .sound) (k - a) (omega arith))));
     stands =
         e
-        ∙ sym (stood-cong (λ k. x (a + k)) y mid n h)
-        ∙ ap (λ (z : Standing). stood (λ k. x (a + k)) lot bag z n) (s .stands)
-        ∙ sym (stood-append x first a n);
+        ∙ sym (stood-cong (λ k. x (a + k)) y (λ k. v (a + k)) w mid n h)
+        ∙ ap (λ (z : A). stood (λ k. x (a + k)) lot bag (λ k. v (a + k)) z n) (s .stands)
+        ∙ sym (stood-append x v first a n);
   }
 
 -- the latest ticket is one of the page's

@@ -10,8 +10,9 @@ use lib.Arith.{digits-lt, digits-div, digits-mod}
 use lib.Dec.{eqb}
 use lib.ListN.{length}
 use borrow.Author.Tests.{eqb-true}
+use Rattle.ranges.specs.declared.Found.{Found}
 use Rattle.ranges.specs.declared.Found.the-variants.{At, Nothing}
-use Rattle.ranges.specs.Look.{sumBelow, whenFound}
+use Rattle.ranges.specs.Look.{firstBelow, lastBelow, sumBelow, whenFound}
 use Rattle.ranges.proofs.Looks.{by-test, by-order, by-found, at-last, both, all-at, first-at, first-is, first-none}
 use Rattle.ranges.proofs.Sums.{sum-more}
 use Rattle.ranges.proofs.Tests.{and-left}
@@ -20,18 +21,20 @@ use Rattle.layout.specs.Rotation.{parityChip}
 use Rattle.layout.specs.Images.{Images}
 use Rattle.layout.proofs.Limits.{Within}
 use Rattle.layout.proofs.Rotations.{stripe-fits, member-fits}
+use Rattle.rules.specs.declared.Origin.{Origin}
+use Rattle.rules.specs.declared.Origin.the-variants.{Unwritten}
 use Rattle.rules.specs.declared.Ticket.{Ticket}
-use Rattle.rules.specs.declared.Standing.{Standing}
 use Rattle.rules.specs.declared.Standing.the-variants.{Nothing as NoWeight}
 use Rattle.rules.specs.Read.{fetch, fetchMember}
-use Rattle.rules.specs.Tickets.{ticketBytes, isEmpty, ticketSound, weightOf}
-use Rattle.rules.specs.Log.{perPage, places, bytesAt, ticketAt, contents, logEnd, logLength, logSound, latest, standing, logPages, logReads}
+use Rattle.rules.specs.Origins.{later, lastOrigin}
+use Rattle.rules.specs.Tickets.{ticketBytes, isEmpty, ticketSound, isFor, weightOf}
+use Rattle.rules.specs.Log.{carried, perPage, places, fallsIn, bytesAt, ticketAt, contents, origins, logEnd, logLength, logSound, latest, standing, logPages, logOrigin, logReads}
 use Rattle.log.specs.declared.Shown.{Shown}
 use Rattle.log.specs.declared.Latest.{Latest}
 use Rattle.log.specs.declared.Position.{Position}
 use Rattle.log.specs.declared.Looked.{Looked}
 use Rattle.log.specs.declared.Walk.{Walk}
-use Rattle.log.specs.Walks.{ticketsIn, standingFrom, positionOf, PageShows, PageLooked, Walked, broken, walkOf}
+use Rattle.log.specs.Walks.{ticketsIn, Held, heldBy, heldFrom, nothingHeld, positionOf, PageShows, PageLooked, Walked, broken, whole, walkOf}
 use Rattle.log.proofs.Seeing.{StandsTo, stands-none, seen-page, stood-is}
 
 -- a store has few pages
@@ -54,34 +57,69 @@ module _ (l : Layout) (f : ℕ → List ℕ) where
   unfolding bytesAt
   in-page i k h = rw (digits-mod i h, digits-div i h)
 
-  module _ (lot bag : ℕ) where
-    -- the log's tickets before place n are sound, and let this stand
-    abbrev pub SeenTo : ℕ → Standing → Type 0
-    SeenTo n last = StandsTo lot bag (ticketAt l f) NoWeight n last
+  -- o tells how each page was got
+  module _ (o : ℕ → Origin) (lot bag : ℕ) where
+    -- what the ticket at a place lets stand
+    abbrev heldAt : ℕ → Held
+    heldAt t = heldBy (ticketAt l f t) (o (fallsIn l t))
 
-    pub seen-to : {i : ℕ} {mid last : Standing} {r : Shown} → length (f i) ≡ l .W → SeenTo (i * perPage l) mid → PageShows (f i) lot bag r
-        → last ≡ cond (r .found) (weightOf (ticketsIn (f i) (r .latest))) mid → SeenTo (i * perPage l + r .kept) last
+    -- the log's tickets before place n are sound, and let this stand
+    abbrev pub SeenTo : ℕ → Held → Type 0
+    SeenTo n last = StandsTo lot bag (ticketAt l f) heldAt nothingHeld n last
+
+    held-in : (i k : ℕ) → k < perPage l → (ticketAt l f (i * perPage l + k) ≡ ticketsIn (f i) k) × (heldAt (i * perPage l + k) ≡ heldBy (ticketsIn (f i) k) (o i))
+    held-in i k h = (in-page i k h, rw (in-page i k h, digits-div i h))
+
+    pub seen-to : {i : ℕ} {mid last : Held} {r : Shown} → length (f i) ≡ l .W → SeenTo (i * perPage l) mid → PageShows (f i) lot bag r
+        → last ≡ cond (r .found) (heldBy (ticketsIn (f i) (r .latest)) (o i)) mid → SeenTo (i * perPage l + r .kept) last
     seen-to {i} {mid} {last} {r} long s p after =
         let few : r .kept ≤ perPage l = rw long at (p .few) in
-        seen-page lot bag (λ k h. in-page i k (omega arith)) s (p .seen) (after ∙ stood-is (ticketsIn (f i)) lot bag mid (p .seen))
+        seen-page lot bag (λ k h. held-in i k (omega arith)) s (p .seen) (after ∙ stood-is (ticketsIn (f i)) lot bag (λ k. heldBy (ticketsIn (f i) k) (o i)) mid (p .seen))
 
-    none-empty : {n : ℕ} {last : Standing} → SeenTo n last → (k : ℕ) → k < n → isEmpty (ticketAt l f k) ≡ false
+    -- what stands of the log, and how it was got
+    abbrev Told : Found → ℕ → Held → Type 0
+    Told end pages last =
+        (logEnd l f ≡ end) × (logSound l f ≡ true) × (standing l f lot bag ≡ last .standing)
+        × (logOrigin l f o lot bag ≡ carried (last .standing) (last .origin) (lastOrigin pages o))
+
+    stands-held : (r : Found) → whenFound r (λ t. weightOf (ticketAt l f t)) NoWeight ≡ whenFound r heldAt nothingHeld .standing
+    unfolding whenFound
+    stands-held (At t) = refl
+    stands-held Nothing = refl
+
+    carries-held : (r : Found) (any : Origin)
+        → whenFound r (λ t. carried (weightOf (ticketAt l f t)) (o (fallsIn l t)) any) any
+        ≡ carried (whenFound r heldAt nothingHeld .standing) (whenFound r heldAt nothingHeld .origin) any
+    unfolding whenFound
+    carries-held (At t) any = refl
+    carries-held Nothing any = refl
+
+    none-empty : {n : ℕ} {last : Held} → SeenTo n last → (k : ℕ) → k < n → isEmpty (ticketAt l f k) ≡ false
     none-empty {n} s k h = not-empty (ticketAt l f k) (all-at n (λ t. ticketSound (ticketAt l f t)) (s .sound) k h)
 
+    -- the log ends here
+    told : (end : Found) {last : Held} → SeenTo (whenFound end (λ t. t) (places l)) last → firstBelow (places l) (λ t. isEmpty (ticketAt l f t)) ≡ end
+        → Told end (whenFound end (λ t. fallsIn l t + 1) (l .N * l .S)) last
+    unfolding logEnd logLength logSound latest standing logPages logOrigin
+    told end {last} s e =
+        let found = lastBelow (whenFound end (λ t. t) (places l)) (λ t. isFor lot bag (ticketAt l f t)) in
+        let stands : whenFound found heldAt nothingHeld ≡ last = sym (s .stands) in (
+          e,
+          rw e (s .sound),
+          rw e (stands-held found ∙ ap (λ (x : Held). x .standing) stands),
+          rw e (carries-held found (lastOrigin (whenFound end (λ t. fallsIn l t + 1) (l .N * l .S)) o)
+              ∙ ap (λ (x : Held). carried (x .standing) (x .origin) (lastOrigin (whenFound end (λ t. fallsIn l t + 1) (l .N * l .S)) o)) stands),
+        )
+
     -- the ticket at place n ends the log
-    pub ended : {n : ℕ} {last : Standing} → SeenTo n last → n < places l → isEmpty (ticketAt l f n) ≡ true
-        → (logEnd l f ≡ At n) × (logSound l f ≡ true) × (standing l f lot bag ≡ last)
-    unfolding logEnd logLength logSound latest standing whenFound
-    ended {n} {last} s h e =
-        let end = first-is (places l) (λ t. isEmpty (ticketAt l f t)) n h e (none-empty s) in
-        (end, rw end (s .sound), rw end (sym (s .stands)))
+    pub ended : {n : ℕ} {last : Held} → SeenTo n last → n < places l → isEmpty (ticketAt l f n) ≡ true → Told (At n) (fallsIn l n + 1) last
+    unfolding whenFound
+    ended {n} {last} s h e = told (At n) s (first-is (places l) (λ t. isEmpty (ticketAt l f t)) n h e (none-empty s))
 
     -- no ticket ends it
-    pub full : {last : Standing} → SeenTo (places l) last → (logEnd l f ≡ Nothing) × (logSound l f ≡ true) × (standing l f lot bag ≡ last)
-    unfolding logEnd logLength logSound latest standing whenFound
-    full {last} s =
-        let end = first-none (places l) (λ t. isEmpty (ticketAt l f t)) (none-empty s) in
-        (end, rw end (s .sound), rw end (sym (s .stands)))
+    pub full : {last : Held} → SeenTo (places l) last → Told Nothing (l .N * l .S) last
+    unfolding whenFound
+    full {last} s = told Nothing s (first-none (places l) (λ t. isEmpty (ticketAt l f t)) (none-empty s))
 
     -- the log goes beyond place n
     beyond : (n : ℕ) → n < places l → ((k : ℕ) → k ≤ n → isEmpty (ticketAt l f k) ≡ false) → n < logLength l f
@@ -93,7 +131,7 @@ module _ (l : Layout) (f : ℕ → List ℕ) where
         (λ e. rw e h)
 
     -- the ticket at place n breaks the rules
-    pub breaks : {n : ℕ} {mid : Standing} → SeenTo n mid → n < places l → isEmpty (ticketAt l f n) ≡ false → ticketSound (ticketAt l f n) ≡ false → logSound l f ≡ false
+    pub breaks : {n : ℕ} {mid : Held} → SeenTo n mid → n < places l → isEmpty (ticketAt l f n) ≡ false → ticketSound (ticketAt l f n) ≡ false → logSound l f ≡ false
     unfolding logSound
     breaks {n} s h kept wrong = by-test (logSound l f)
         (λ e. both _ (all-at (logLength l f) (λ t. ticketSound (ticketAt l f t)) e n (beyond n h (λ k low. at-last k n (omega arith) (none-empty s k) (λ same. rw same kept)))) wrong)
@@ -109,66 +147,74 @@ module _ (l : Layout) (s : Images) (lost lot bag : ℕ) where
   readsTo i = sumBelow i (λ k. fetch l s lost k .reads)
 
   -- i pages have been walked, none of whose tickets ends the log or breaks the rules
-  pub record Going (last : Latest) (reads i : ℕ) : Type 0 where
+  pub record Going (latest : Latest) (last : Origin) (reads i : ℕ) : Type 0 where
     pub below : i ≤ N * S
-    pub seen : SeenTo l (contents l s lost) lot bag (i * perPage l) (standingFrom last)
+    pub seen : SeenTo l (contents l s lost) (origins l s lost) lot bag (i * perPage l) (heldFrom latest)
+    pub told : last ≡ lastOrigin i (origins l s lost)
     pub counted : reads ≡ readsTo i
     pub few : reads ≤ 7 * i
 
-  pub going : {last : Latest} → standingFrom last ≡ NoWeight → Going last 0 0
-  unfolding sumBelow
+  pub going : {latest : Latest} → heldFrom latest ≡ nothingHeld → Going latest Unwritten 0 0
+  unfolding sumBelow lastOrigin
   going e = record {
     below = omega arith;
-    seen = rw (zero-mul, e) (stands-none lot bag (ticketAt l (contents l s lost)) NoWeight);
+    seen = rw (zero-mul, e) (stands-none lot bag (ticketAt l (contents l s lost)) (heldAt l (contents l s lost) (origins l s lost) lot bag) nothingHeld);
+    told = refl;
     counted = refl;
     few = omega arith;
   }
 
   -- the next one was looked at
-  pub record Next (reads i : ℕ) (r : Looked) : Type 0 where
+  pub record Next (last : Origin) (reads i : ℕ) (r : Looked) : Type 0 where
     pub inside : i < N * S
     pub long : length (contents l s lost i) ≡ W
     pub shows : PageShows (contents l s lost i) lot bag (r .shown)
-    pub seen : SeenTo l (contents l s lost) lot bag (i * perPage l + r .shown .kept) (standingFrom (r .latest))
+    pub seen : SeenTo l (contents l s lost) (origins l s lost) lot bag (i * perPage l + r .shown .kept) (heldFrom (r .latest))
+    pub told : later last (r .origin) ≡ lastOrigin (i + 1) (origins l s lost)
     pub counted : reads + r .reads ≡ readsTo (i + 1)
     pub few : reads + r .reads ≤ 7 * (i + 1)
 
-  pub next : {last : Latest} {reads i : ℕ} {r : Looked} → Going last reads i → i < N * S → PageLooked l s lost lot bag i last r → Next reads i r
-  next {last} {reads} {i} {r} g h p = record {
+  pub next : {latest : Latest} {last : Origin} {reads i : ℕ} {r : Looked} → Going latest last reads i → i < N * S → PageLooked l s lost lot bag i latest r
+      → Next last reads i r
+  unfolding lastOrigin
+  next {latest} {last} {reads} {i} {r} g h p = record {
     inside = h;
     long = p .long;
     shows = p .shows;
-    seen = seen-to l (contents l s lost) lot bag (p .long) (g .seen) (p .shows) (p .stands);
+    seen = seen-to l (contents l s lost) (origins l s lost) lot bag (p .long) (g .seen) (p .shows) (p .stands);
+    told = rw (add-one, g .told, p .origin);
     counted = rw (add-one, sum-more) (ap (λ (n : ℕ). n + r .reads) (g .counted) ∙ ap (λ (n : ℕ). readsTo i + n) (p .reads));
     few = omega (arith, g .few, p .few);
   }
 
-  module _ {reads i : ℕ} {r : Looked} (x : Next reads i r) where
-    pub goes-on : perPage l ≤ r .shown .kept → Going (r .latest) (reads + r .reads) (i + 1)
-    goes-on h =
+  module _ {last : Origin} {reads i : ℕ} {r : Looked} (x : Next last reads i r) where
+    pub goes-on : {now : Origin} → now ≡ later last (r .origin) → perPage l ≤ r .shown .kept → Going (r .latest) now (reads + r .reads) (i + 1)
+    goes-on e h =
         let few : r .shown .kept ≤ perPage l = rw (x .long) at (x .shows .few) in
         let all : r .shown .kept ≡ perPage l = omega arith in
         let place : (i + 1) * perPage l ≡ i * perPage l + perPage l = rw (add-one, suc-mul) in
         record {
           below = omega (arith, x .inside);
           seen = rw place (rw all at (x .seen));
+          told = e ∙ x .told;
           counted = x .counted;
           few = x .few;
         }
 
   module _ (w : Within l) where
-    module _ {reads i : ℕ} {r : Looked} (x : Next reads i r) where
-      pub walk-ended : {last : Standing} → last ≡ standingFrom (r .latest) → r .shown .ended ≡ true → r .shown .kept < perPage l
-          → Walked l s lost lot bag (record { sound = true; end = At (i * perPage l + r .shown .kept); reads = reads + r .reads; standing = last })
+    module _ {last : Origin} {reads i : ℕ} {r : Looked} (x : Next last reads i r) where
+      pub walk-ended : {o : Walk} → o ≡ whole (At (i * perPage l + r .shown .kept)) (reads + r .reads) (r .latest) (later last (r .origin)) → r .shown .ended ≡ true
+          → r .shown .kept < perPage l → Walked l s lost lot bag o
       unfolding logReads logPages whenFound
-      walk-ended stands ends h =
+      walk-ended is ends h =
           let inside : r .shown .kept < length (contents l s lost i) / ticketBytes = rw (x .long) h in
           let empty = ap (λ (t : Ticket). isEmpty t) (in-page l (contents l s lost) i (r .shown .kept) h) ∙ sym (x .shows .ends inside) ∙ ends in
-          let t = ended l (contents l s lost) lot bag (x .seen) (digits-lt (x .inside) h) empty in
-          record {
-            tells = rw (stands, t .0, t .1, t .2, digits-div i h, x .counted);
+          let t = rw (digits-div i h) at (ended l (contents l s lost) (origins l s lost) lot bag (x .seen) (digits-lt (x .inside) h) empty) in
+          rw is
+          (record {
+            tells = rw (t .0, t .1, t .2, t .3, x .told, digits-div i h, x .counted);
             few = omega (arith, x .few, x .inside, pages-few l w);
-          }
+          })
 
       pub walk-broken : {o : Walk} → o ≡ broken → r .shown .ended ≡ false → Walked l s lost lot bag o
       walk-broken e ends =
@@ -178,21 +224,22 @@ module _ (l : Layout) (s : Images) (lost lot bag : ℕ) where
           let inside : r .shown .kept < length (contents l s lost i) / ticketBytes = rw (x .long) h in
           let is = in-page l (contents l s lost) i (r .shown .kept) h in
           let wrong =
-          breaks l (contents l s lost) lot bag (x .seen) (digits-lt (x .inside) h)
+          breaks l (contents l s lost) (origins l s lost) lot bag (x .seen) (digits-lt (x .inside) h)
           (ap (λ (t : Ticket). isEmpty t) is ∙ sym (x .shows .ends inside) ∙ ends) (ap ticketSound is ∙ x .shows .next inside) in
           rw e (record { tells = rw wrong; few = omega arith }))
           (λ h. let all : r .shown .kept ≡ length (contents l s lost i) / ticketBytes = rw (x .long) (omega arith) in both _ (x .shows .over all) ends)
 
-    pub walk-full : {latest : Latest} {last : Standing} {reads i : ℕ} → last ≡ standingFrom latest → Going latest reads i → N * S ≤ i
-        → Walked l s lost lot bag (record { sound = true; end = Nothing; reads = reads; standing = last })
+    pub walk-full : {latest : Latest} {last : Origin} {reads i : ℕ} {o : Walk} → o ≡ whole Nothing reads latest last → Going latest last reads i → N * S ≤ i
+        → Walked l s lost lot bag o
     unfolding logReads logPages whenFound
-    walk-full {i = i} stands g h =
+    walk-full {i = i} is g h =
         let all : i ≡ N * S = omega (arith, g .below) in
-        let t = full l (contents l s lost) lot bag (rw all at (g .seen)) in
-        record {
-          tells = rw (stands, t .0, t .1, t .2, g .counted, all);
+        let t = full l (contents l s lost) (origins l s lost) lot bag (rw all at (g .seen)) in
+        rw is
+        (record {
+          tells = rw (t .0, t .1, t .2, t .3, g .told, g .counted, all);
           few = omega (arith, g .few, g .below, pages-few l w);
-        }
+        })
 
   -- what the walk tells of the log
   pub told-sound : {r : Walk} → r ≡ walkOf l s lost lot bag → logSound l (contents l s lost) ≡ r .sound
@@ -202,10 +249,16 @@ module _ (l : Layout) (s : Images) (lost lot bag : ℕ) where
 
   pub told-whole : {r : Walk} → r ≡ walkOf l s lost lot bag → r .sound ≡ true
       → (logSound l (contents l s lost) ≡ true) × (logEnd l (contents l s lost) ≡ r .end) × (logReads l s lost ≡ r .reads) × (standing l (contents l s lost) lot bag ≡ r .standing)
+      × (logOrigin l (contents l s lost) (origins l s lost) lot bag ≡ r .origin)
   told-whole e h =
       let sound = told-sound e ∙ h in
-      let is = rw sound at e in
-      (sound, sym (ap (λ (x : Walk). x .end) is), sym (ap (λ (x : Walk). x .reads) is), sym (ap (λ (x : Walk). x .standing) is))
+      let is = rw sound at e in (
+        sound,
+        sym (ap (λ (x : Walk). x .end) is),
+        sym (ap (λ (x : Walk). x .reads) is),
+        sym (ap (λ (x : Walk). x .standing) is),
+        sym (ap (λ (x : Walk). x .origin) is),
+      )
 
 -- ---- positions
 

@@ -4,18 +4,21 @@ use mathlib.Core.Path.{_≡_}
 use mathlib.Core.Bool.{Bool, true, false, not, cond, _&&_}
 use mathlib.Core.List.{List}
 use lib.ListN.{length}
+use Rattle.ranges.specs.declared.Found.{Found}
 use Rattle.ranges.specs.declared.Found.the-variants.{At, Nothing}
 use Rattle.ranges.specs.Look.{allBelow, lastBelow}
 use Rattle.bytes.specs.Units.{unit}
 use Rattle.layout.specs.Layout.{Layout}
 use Rattle.layout.specs.Rotation.{memberOf, stripeOf, parityChip}
 use Rattle.layout.specs.Images.{Images}
+use Rattle.rules.specs.declared.Origin.{Origin}
+use Rattle.rules.specs.declared.Origin.the-variants.{Unwritten}
 use Rattle.rules.specs.declared.Ticket.{Ticket}
 use Rattle.rules.specs.declared.Standing.{Standing}
 use Rattle.rules.specs.declared.Standing.the-variants.{Weighed, Nothing as NoWeight}
 use Rattle.rules.specs.Read.{fetch}
 use Rattle.rules.specs.Tickets.{ticketBytes, ticketOf, isEmpty, ticketSound, isFor, weightOf}
-use Rattle.rules.specs.Log.{contents, logEnd, logSound, logReads, standing}
+use Rattle.rules.specs.Log.{carried, contents, origins, logEnd, logSound, logReads, standing, logOrigin}
 use Rattle.log.specs.declared.Shown.{Shown}
 use Rattle.log.specs.declared.Latest.{Latest}
 use Rattle.log.specs.declared.Position.{Position}
@@ -24,7 +27,7 @@ use Rattle.log.specs.declared.Walk.{Walk}
 
 -- a log with a ticket that breaks the rules
 abbrev pub broken : Walk
-broken = record { sound = false; end = Nothing; reads = 0; standing = NoWeight }
+broken = record { sound = false; end = Nothing; reads = 0; standing = NoWeight; origin = Unwritten }
 
 -- the walk of a store's log, for a lot and bag
 abbrev pub walkOf : Layout → Images → ℕ → ℕ → ℕ → Walk
@@ -35,6 +38,7 @@ walkOf l s lost lot bag =
       end = logEnd l (contents l s lost);
       reads = logReads l s lost;
       standing = standing l (contents l s lost) lot bag;
+      origin = logOrigin l (contents l s lost) (origins l s lost) lot bag;
     })
     broken
 
@@ -59,9 +63,33 @@ pub record PageShows (page : List ℕ) (lot bag : ℕ) (r : Shown) : Type 0 wher
   pub ends : r .kept < length page / ticketBytes → r .ended ≡ isEmpty (ticketsIn page (r .kept))
   pub over : r .kept ≡ length page / ticketBytes → r .ended ≡ true
 
--- what the latest ticket lets stand: "if it is a weight, else none"
-abbrev pub standingFrom : Latest → Standing
-standingFrom x = cond (x .weight) (Weighed (record { gross = x .gross; tare = x .tare })) NoWeight
+-- what the latest ticket for the lot and bag lets stand, and how its page was got
+pub record Held : Type 0 where
+  pub standing : Standing
+  pub origin : Origin
+
+-- of this ticket
+abbrev pub heldBy : Ticket → Origin → Held
+heldBy t o = record { standing = weightOf t; origin = o }
+
+-- as the code has it: "if it is a weight, else none"
+abbrev pub heldFrom : Latest → Held
+heldFrom x = record { standing = cond (x .weight) (Weighed (record { gross = x .gross; tare = x .tare })) NoWeight; origin = x .origin }
+
+-- before the first ticket
+abbrev pub nothingHeld : Held
+nothingHeld = record { standing = NoWeight; origin = Unwritten }
+
+-- a log whose tickets are sound, where `last` is the last of the origins of its pages
+abbrev pub whole : Found → ℕ → Latest → Origin → Walk
+whole end reads x last =
+    record {
+      sound = true;
+      end = end;
+      reads = reads;
+      standing = heldFrom x .standing;
+      origin = carried (heldFrom x .standing) (heldFrom x .origin) last;
+    }
 
 -- logical page i, and the chip of its stripe's parity
 abbrev pub positionOf : Layout → ℕ → Position
@@ -73,7 +101,8 @@ pub record PageLooked (l : Layout) (s : Images) (lost lot bag i : ℕ) (before :
   pub shows : PageShows (contents l s lost i) lot bag (r .shown)
   pub reads : r .reads ≡ fetch l s lost i .reads
   pub few : r .reads ≤ 7
-  pub stands : standingFrom (r .latest) ≡ cond (r .shown .found) (weightOf (ticketsIn (contents l s lost i) (r .shown .latest))) (standingFrom before)
+  pub origin : r .origin ≡ origins l s lost i
+  pub stands : heldFrom (r .latest) ≡ cond (r .shown .found) (heldBy (ticketsIn (contents l s lost i) (r .shown .latest)) (origins l s lost i)) (heldFrom before)
 
 -- what the walk of a store's log tells; no count is near a word's end
 pub record Walked (l : Layout) (s : Images) (lost lot bag : ℕ) (r : Walk) : Type 0 where

@@ -1,14 +1,17 @@
 //! The log of tickets in the pages of a store, walked from its beginning to its end.
 
+use answers::origin_number;
 use bytes::copy;
 use bytes::number_at;
 use bytes::number_of_four;
 use codec::parity_chip;
+use fetch::Got;
 use fetch::fetch_member;
 use fetch::is_direct;
 use fetch::lent;
 use layout::Geometry;
 use ranges::Found;
+use rules::Origin;
 use rules::Standing;
 use rules::Ticket;
 use rules::Weight;
@@ -25,11 +28,12 @@ ghost use Rattle.layout.specs.Record.{recordAt};
 ghost use Rattle.steps.specs.Allowance.{images};
 ghost use Rattle.rules.specs.Sound.{recordSound};
 ghost use Rattle.rules.specs.Read.{fetch};
-ghost use Rattle.rules.specs.Log.{contents};
+ghost use Rattle.rules.specs.Log.{carried, contents};
+ghost use Rattle.rules.specs.Origins.{later as laterOf};
 ghost use Rattle.fetch.specs.Into.{isDirect};
-ghost use Rattle.rules.specs.Tickets.{ticketBytes, ticketOf, ticketSound, isFor, weightOf};
+ghost use Rattle.rules.specs.Tickets.{ticketBytes, ticketOf, ticketSound, isFor};
 ghost use Rattle.codec.specs.Fit.{ChipsFit, RecordsFit, SlotsFit};
-ghost use Rattle.log.specs.Walks.{broken as brokenWalk, ticketsIn, standingFrom, positionOf, isPlain, PageShows, PageLooked, Walked};
+ghost use Rattle.log.specs.Walks.{broken as brokenWalk, whole as wholeWalk, ticketsIn, heldFrom, heldBy, positionOf, isPlain, PageShows, PageLooked, Walked};
 
 // The bytes of a ticket.
 pub const TICKET: usize = 16;
@@ -180,12 +184,14 @@ struct Latest {
     weight: bool,
     gross: u32,
     tare: u32,
+    // how its page was got
+    origin: Origin,
 }
 
-// What stands after the tickets of a page.
-fn latest_of(page: &[u8], shown: Shown, before: Latest) -> Latest
+// What stands after the tickets of a page that was got so.
+fn latest_of(page: &[u8], shown: Shown, origin: Origin, before: Latest) -> Latest
     requires { ⌜ (shown .found ≡ true → shown .latest * ticketBytes + ticketBytes ≤ length (now page)) ⌝ }
-    ensures { λ r. ⌜ standingFrom r ≡ cond (shown .found) (weightOf (ticketsIn (now (page .entry)) (shown .latest))) (standingFrom before) ⌝ }
+    ensures { λ r. ⌜ heldFrom r ≡ cond (shown .found) (heldBy (ticketsIn (now (page .entry)) (shown .latest)) origin) (heldFrom before) ⌝ }
 {
     if shown.found {
         let t = ticket_in(page, shown.latest);
@@ -193,14 +199,25 @@ fn latest_of(page: &[u8], shown: Shown, before: Latest) -> Latest
             weight: t.kind == 1,
             gross: t.gross,
             tare: t.tare,
+            origin,
         };
     }
     before
 }
 
+// Of two origins the later.
+fn later(a: Origin, b: Origin) -> Origin
+    ensures { λ r. ⌜ r ≡ laterOf a b ⌝ }
+{
+    if origin_number(a) <= origin_number(b) {
+        return b;
+    }
+    a
+}
+
 // What it lets stand.
 fn standing_of(x: Latest) -> Standing
-    ensures { λ r. ⌜ r ≡ standingFrom x ⌝ }
+    ensures { λ r. ⌜ r ≡ heldFrom x .standing ⌝ }
 {
     if x.weight {
         return Standing::Weighed(Weight {
@@ -209,6 +226,17 @@ fn standing_of(x: Latest) -> Standing
         });
     }
     Standing::Nothing
+}
+
+// How it was got: a ticket that is given carries the origin of its page.
+fn origin_of(x: Latest, last: Origin) -> Origin
+    ensures { λ r. ⌜ r ≡ carried (heldFrom x .standing) (heldFrom x .origin) last ⌝ }
+{
+    let origin = x.origin;
+    if x.weight {
+        return origin;
+    }
+    last
 }
 
 // A logical page, where it stands.
@@ -256,7 +284,7 @@ fn next_page(g: Geometry, at: Position) -> Position
     }
 }
 
-// A page that cannot be read off its chip is fetched to the work page. Answers how many pages are read for it.
+// A page that cannot be read off its chip is fetched to the work page.
 fn fetch_apart(
     work: &mut [u8],
     chips: &[u8],
@@ -266,19 +294,22 @@ fn fetch_apart(
     lost: usize,
     at: Position,
     direct: bool,
-) -> u64
+) -> Got
     requires { ⌜ ChipsFit g (now chips) × RecordsFit g (now records) × SlotsFit g (now slots) × (length (now work) ≡ g .w)
         × ((j : ℕ) → j < g .s → recordSound (layoutOf g) (recordAt (layoutOf g) (now records) j) ≡ true)
         × (at ≡ positionOf (layoutOf g) (at .page)) × (at .page < g .n * g .s)
         × (direct ≡ isDirect (layoutOf g) (recordAt (layoutOf g) (now records) (at .stripe)) lost (at .stripe) (at .member)) ⌝ }
-    ensures { λ r. ⌜ (r ≡ fetch (layoutOf g) (images (now (chips .entry)) (now (records .entry)) (now (slots .entry))) lost (at .page) .reads) × (r ≤ 7)
+    ensures { λ r. ⌜ (r .reads ≡ fetch (layoutOf g) (images (now (chips .entry)) (now (records .entry)) (now (slots .entry))) lost (at .page) .reads) × (r .reads ≤ 7)
+        × (r .origin ≡ fetch (layoutOf g) (images (now (chips .entry)) (now (records .entry)) (now (slots .entry))) lost (at .page) .origin)
         × (direct ≡ false → now (work .exit) ≡ contents (layoutOf g) (images (now (chips .entry)) (now (records .entry)) (now (slots .entry))) lost (at .page)) ⌝ }
 {
     if direct {
-        return 1;
+        return Got {
+            reads: 1,
+            origin: Origin::Direct,
+        };
     }
-    let got = fetch_member(work, chips, records, slots, g, lost, at.stripe, at.member);
-    got.reads
+    fetch_member(work, chips, records, slots, g, lost, at.stripe, at.member)
 }
 
 // A page of the log, looked at.
@@ -286,6 +317,7 @@ struct Looked {
     shown: Shown,
     // pages read for it
     reads: u64,
+    origin: Origin,
     latest: Latest,
 }
 
@@ -308,7 +340,7 @@ fn look_at_page(
     ensures { λ r. ⌜ PageLooked (layoutOf g) (images (now (chips .entry)) (now (records .entry)) (now (slots .entry))) lost lot bag (at .page) before r ⌝ }
 {
     let direct = is_direct(records, g, lost, at.stripe, at.parity, at.member);
-    let reads = fetch_apart(work, chips, records, slots, g, lost, at, direct);
+    let got = fetch_apart(work, chips, records, slots, g, lost, at, direct);
     let page = lent(
         chips,
         work,
@@ -320,10 +352,12 @@ fn look_at_page(
         direct,
     );
     let shown = look_at(page, lot, bag);
-    let latest = latest_of(page, shown, before);
+    let origin = got.origin;
+    let latest = latest_of(page, shown, origin, before);
     Looked {
         shown,
-        reads,
+        reads: got.reads,
+        origin,
         latest,
     }
 }
@@ -337,6 +371,8 @@ pub struct Walk {
     pub reads: u64,
     // what stands for the lot and bag
     pub standing: Standing,
+    // how its page was got; where nothing stands, the latest origin of all pages
+    pub origin: Origin,
 }
 
 // A log with a ticket that breaks the rules.
@@ -348,6 +384,20 @@ fn broken() -> Walk
         end: Found::Nothing,
         reads: 0,
         standing: Standing::Nothing,
+        origin: Origin::Unwritten,
+    }
+}
+
+// A log whose tickets are sound, where `last` is the latest origin of its pages.
+fn whole(end: Found, reads: u64, latest: Latest, last: Origin) -> Walk
+    ensures { λ r. ⌜ r ≡ wholeWalk end reads latest last ⌝ }
+{
+    Walk {
+        sound: true,
+        end,
+        reads,
+        standing: standing_of(latest),
+        origin: origin_of(latest, last),
     }
 }
 
@@ -372,32 +422,28 @@ pub fn walk_log(
         weight: false,
         gross: 0,
         tare: 0,
+        origin: Origin::Unwritten,
     };
     let mut reads = 0;
+    let mut last = Origin::Unwritten;
     let mut at = first_page(g);
     while at.page < pages {
         let seen = look_at_page(work, chips, records, slots, g, lost, at, lot, bag, latest);
         reads += seen.reads;
         latest = seen.latest;
+        let origin = seen.origin;
+        let with_page = later(last, origin);
+        last = with_page;
         let shown = seen.shown;
         if !shown.ended {
             return broken();
         }
         if shown.kept < per_page {
-            return Walk {
-                sound: true,
-                end: Found::At(at.page * per_page + shown.kept),
-                reads,
-                standing: standing_of(latest),
-            };
+            let end = Found::At(at.page * per_page + shown.kept);
+            return whole(end, reads, latest, last);
         }
         let next = next_page(g, at);
         at = next;
     }
-    Walk {
-        sound: true,
-        end: Found::Nothing,
-        reads,
-        standing: standing_of(latest),
-    }
+    whole(Found::Nothing, reads, latest, last)
 }

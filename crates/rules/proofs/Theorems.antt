@@ -24,6 +24,8 @@ use Rattle.steps.specs.Steps.{Step, noCounts, made, isCut, applyAll, reading}
 use Rattle.steps.proofs.Prefixes.{EndsIn, Every, every-nil, Closes}
 use Rattle.rules.specs.declared.Check.{Check}
 use Rattle.rules.specs.declared.Check.the-variants.{Passed, Failed}
+use Rattle.rules.specs.declared.Origin.{Origin}
+use Rattle.rules.specs.declared.Origin.the-variants.{Direct}
 use Rattle.rules.specs.declared.Reading.the-variants.{Done as ReadDone}
 use Rattle.rules.specs.Blocks.{lowestCleanBlock}
 use Rattle.rules.specs.Sound.{recordsSound, chipSound, isLost}
@@ -40,7 +42,7 @@ use Rattle.rules.specs.Read.{fetch}
 use Rattle.rules.specs.Tickets.{ticketBytes, ticketOf, ticketSound}
 use Rattle.rules.specs.Log.{fallsIn, logEnd, logSound, withTicket, contents, logReads, addSteps}
 use Rattle.rules.specs.Calls.{ReadOutcome, Verdict, done, cut, refused, verdict, run, outcome, formatCall, readCall, writeCall, addCall}
-use Rattle.rules.specs.Demand.{Demand3}
+use Rattle.rules.specs.Demand.{TellsTheOrigin, AfterBothLists, Demand3}
 use Rattle.rules.proofs.Soundness.Statements.{Usable, RecordsSound, ChipSound, SoundBut, Sound, sound-chip, rest-collects}
 use Rattle.rules.proofs.Soundness.Checks.{lengths-are, images-sound, lengths-pass, records-check-pass, spares-check-pass}
 use Rattle.rules.proofs.Soundness.Accepted.{images-accepted, read-passes, WriteAccepted, write-accepted, write-passes, add-accepted, add-passes, commit-accepted, collect-accepted, find-accepted, find-passes}
@@ -56,7 +58,7 @@ use Rattle.rules.proofs.Lists.FreshSound.{fresh-sound}
 use Rattle.rules.proofs.Lists.Committing.{StoresRecord, Committed, commit-closes}
 use Rattle.rules.proofs.Lists.Writing.{write-closes}
 use Rattle.rules.proofs.Demand.Invariant.{no-copies-at-rest}
-use Rattle.rules.proofs.Demand.Events.{demand-3}
+use Rattle.rules.proofs.Demand.Events.{origins-told, demand-3}
 use Rattle.rules.proofs.Demand.Tickets.{TicketsKept, tickets-kept}
 
 module _ (l : Layout) where
@@ -97,19 +99,19 @@ module _ (l : Layout) where
     pub commits : (j : ℕ) → j < S → hasSlot (recordAt l (s .records) j) ≡ true
         → EndsIn (StoresRecord j) (commitSteps l j s) × Committed l j s (applyAll l (commitSteps l j s) s)
 
-  -- the read of page i of images s that names no chip is done, and gives ys
-  abbrev pub Reads : Images → ℕ → List ℕ → Type 0
-  Reads s i ys =
+  -- the read of page i of images s that names no chip is done, says that the page was got so, and gives ys
+  abbrev pub Reads : Images → ℕ → Origin → List ℕ → Type 0
+  Reads s i o ys =
       (buffer : List ℕ) → length buffer ≡ W
-      → (n : Counts) × (_≡_ {A = ReadOutcome} (readCall l s noChip i buffer) (record { answer = ReadDone n; buffer = ys }))
+      → (n : Counts) × (_≡_ {A = ReadOutcome} (readCall l s noChip i buffer) (record { answer = ReadDone n o; buffer = ys }))
 
   -- page i of t reads as in s
   abbrev pub ReadsAs : Images → Images → ℕ → Type 0
-  ReadsAs s t i = (ys : List ℕ) × Reads s i ys × Reads t i ys
+  ReadsAs s t i = (o : Origin) × (ys : List ℕ) × Reads s i o ys × Reads t i o ys
 
   -- Reading back: a write that is done put its data into its page, and every other page reads as before; one that is cut changed no page.
   pub record ReadsBack (s : Images) (page : ℕ) (xs : List ℕ) (v : Verdict) (t : Images) : Type 0 where
-    pub here : v ≡ done → Reads t page xs
+    pub here : v ≡ done → Reads t page Direct xs
     pub elsewhere : v ≡ done → (i : ℕ) → i < N * S → i ≢ page → ReadsAs s t i
     pub cut-short : v ≡ cut → (i : ℕ) → i < N * S → ReadsAs s t i
 
@@ -138,6 +140,8 @@ module _ (l : Layout) where
         → (checked (findRows l s lost) ≡ Passed) ↔ (logSound l (contents l s lost) ≡ true)
     pub cut-rule : CutRules l
     pub demand-3 : Demand3 l
+    -- over the same lists, every read says how its page was got
+    pub origins : AfterBothLists l (TellsTheOrigin l)
     pub tickets : TicketsKept l
     -- demand 3 has something to start from, in every geometry within the limits
     pub starts : limits l ≡ true → (s : Images) → lengths l s ≡ true → (a : ℕ) → length (formatSteps l) ≤ a
@@ -194,7 +198,7 @@ module _ (l : Layout) (some : 1 ≤ l .D) (narrow : l .D ≤ 4) where
     commits = λ j fits has. let c = commit-closes l (usable w) j fits s f rest has in (c .last, c .whole);
   }
 
-  sound-reads : Within l → (s : Images) → Sound l s → (i : ℕ) → i < N * S → Reads l s i (fetch l s noChip i .bytes)
+  sound-reads : Within l → (s : Images) → Sound l s → (i : ℕ) → i < N * S → Reads l s i (fetch l s noChip i .origin) (fetch l s noChip i .bytes)
   unfolding readCall
   sound-reads w s f i inside buffer whole = (
     record { reads = fetch l s noChip i .reads; programs = 0; erases = 0; stores = 0 },
@@ -202,8 +206,8 @@ module _ (l : Layout) (some : 1 ≤ l .D) (narrow : l .D ≤ 4) where
   )
 
   -- pages that are fetched alike read alike
-  read-as : Within l → (s t : Images) → Sound l s → Sound l t → (i : ℕ) → i < N * S → fetch l t noChip i .bytes ≡ fetch l s noChip i .bytes → ReadsAs l s t i
-  read-as w s t f g i inside e = (fetch l s noChip i .bytes, sound-reads w s f i inside, rw e at (sound-reads w t g i inside))
+  read-as : Within l → (s t : Images) → Sound l s → Sound l t → (i : ℕ) → i < N * S → fetch l t noChip i ≡ fetch l s noChip i → ReadsAs l s t i
+  read-as w s t f g i inside e = (fetch l s noChip i .origin, fetch l s noChip i .bytes, sound-reads w s f i inside, rw e at (sound-reads w t g i inside))
 
   module _ (s : Images) (page : ℕ) (xs : List ℕ) where
     refused-back : ReadsBack l s page xs refused s
@@ -278,6 +282,7 @@ module _ (l : Layout) (some : 1 ≤ l .D) (narrow : l .D ≤ 4) where
     );
     cut-rule = cut-rules l;
     demand-3 = demand-3 l some narrow;
+    origins = origins-told l some narrow;
     tickets = tickets-kept l some narrow;
     starts = λ fit s long a enough. format-finishes l s a fit long enough;
   }

@@ -23,8 +23,9 @@ use Rattle.rules.specs.Commit.{commitSteps}
 use Rattle.rules.specs.Write.{writeSteps}
 use Rattle.rules.specs.Fetch.{Fetched}
 use Rattle.rules.specs.Read.{fetch}
+use Rattle.rules.specs.Origins.{originNumber}
 use Rattle.rules.specs.Format.{formatSteps}
-use Rattle.rules.specs.Log.{contents, logReads, standing, addSteps}
+use Rattle.rules.specs.Log.{contents, origins, logReads, standing, logOrigin, addSteps}
 
 -- the answer of a call that stores, and every byte of the images after it
 pub record Outcome : Type 0 where
@@ -50,32 +51,42 @@ countsOf (Refused r) = noCounts
 
 -- the same of a read
 abbrev pub readStatusOf : Reading → ℕ
-readStatusOf (ReadDone n) = 0
+readStatusOf (ReadDone n o) = 0
 readStatusOf (ReadRefused r) = refusalNumber r
 
 -- the same of a read
 abbrev pub readCountsOf : Reading → Counts
-readCountsOf (ReadDone n) = n
+readCountsOf (ReadDone n o) = n
 readCountsOf (ReadRefused r) = noCounts
+
+-- the number of how its page was got; of a refusal 0
+abbrev pub readOriginOf : Reading → ℕ
+readOriginOf (ReadDone n o) = originNumber o
+readOriginOf (ReadRefused r) = 0
 
 -- the same of a question
 abbrev pub findStatusOf : Finding → ℕ
-findStatusOf (FindDone n x) = 0
+findStatusOf (FindDone n x o) = 0
 findStatusOf (FindRefused r) = refusalNumber r
 
 -- the same of a question
 abbrev pub findCountsOf : Finding → Counts
-findCountsOf (FindDone n x) = n
+findCountsOf (FindDone n x o) = n
 findCountsOf (FindRefused r) = noCounts
 
 -- what it gives; of a refusal nothing
 abbrev pub findStandingOf : Finding → Standing
-findStandingOf (FindDone n x) = x
+findStandingOf (FindDone n x o) = x
 findStandingOf (FindRefused r) = Nothing
 
--- a read that is done: the pages read, and what they gave
+-- the same of a question
+abbrev pub findOriginOf : Finding → ℕ
+findOriginOf (FindDone n x o) = originNumber o
+findOriginOf (FindRefused r) = 0
+
+-- a read that is done: the pages read, how its page was got, and what they gave
 abbrev pub readInto : Fetched → ReadOutcome
-readInto x = record { answer = ReadDone (reading (x .reads)); buffer = x .bytes }
+readInto x = record { answer = ReadDone (reading (x .reads)) (x .origin); buffer = x .bytes }
 
 module _ (l : Layout) where
   -- "If the list is longer than the allowance it stops there and answers cut with the counts so far; otherwise done."
@@ -132,7 +143,9 @@ module _ (l : Layout) where
 
   -- a question is answered from the log
   abbrev pub findOutcome : Check → Images → ℕ → ℕ → ℕ → Finding
-  findOutcome Passed s lost lot bag = FindDone (reading (logReads l s lost)) (standing l (contents l s lost) lot bag)
+  findOutcome Passed s lost lot bag =
+      FindDone (reading (logReads l s lost)) (standing l (contents l s lost) lot bag)
+      (logOrigin l (contents l s lost) (origins l s lost) lot bag)
   findOutcome (Failed r) s lost lot bag = FindRefused r
 
   -- find: images, lost chip, lot, bag; it changes no byte

@@ -1,25 +1,31 @@
 -- Demand 3 as one statement, in the terms of document 01, "The price book".
 use Prim.Native.Nat.{ℕ, _*_, _≤_, _<_}
 use mathlib.Core.Path.{_≡_}
-use mathlib.Core.Bool.{cond}
+use mathlib.Core.Bool.{Bool, false, cond}
 use mathlib.Core.List.{List, [], _∷_}
 use lib.ListN.{length}
+use lib.Dec.{eqb}
 use Rattle.bytes.specs.Units.{unitPut}
 use Rattle.layout.specs.Layout.{Layout, noChip, chipBytes}
+use Rattle.layout.specs.Rotation.{memberChip, memberOf, stripeOf}
+use Rattle.layout.specs.Record.{bit, recordAt}
 use Rattle.layout.specs.Images.{Images}
 use Rattle.steps.specs.declared.Counts.{Counts}
 use Rattle.rules.specs.declared.Refusal.the-variants.{Tickets}
+use Rattle.rules.specs.declared.Origin.{Origin}
+use Rattle.rules.specs.declared.Origin.the-variants.{Unwritten, Direct, Partial, Full}
 use Rattle.rules.specs.declared.Reading.the-variants.{Done as ReadDone}
 use Rattle.rules.specs.declared.Finding.{Finding}
 use Rattle.rules.specs.declared.Finding.the-variants.{Done as FindDone, Refused as FindRefused}
-use Rattle.rules.specs.Log.{logSound, standing}
+use Rattle.rules.specs.Log.{logSound, standing, logOrigin}
 use Rattle.rules.specs.Calls.{ReadOutcome, Call, lostChip, done, verdict, ended, formatCall, readCall, findCall}
-use Rattle.rules.specs.Book.{Book, finished, booked}
+use Rattle.rules.specs.Book.{Book, finished, booked, noted}
 
--- the images and the book together
+-- the images and the book together, and of which pages a write was completed since the format
 pub record World : Type 0 where
   pub images : Images
   pub book : Book
+  pub written : ℕ → Bool
 
 -- "each call naming that chip as lost"
 abbrev pub allName : ℕ → List Call → Type 0
@@ -36,6 +42,7 @@ module _ (l : Layout) where
       record {
         images = ended l call (x .images) .images;
         book = booked l call (ended l call (x .images) .verdict) (x .book);
+        written = noted l call (ended l call (x .images) .verdict) (x .book) (x .written);
       }
 
   -- "gets chips, records and slots as the last one left them, be it done, cut or refused"
@@ -54,26 +61,49 @@ module _ (l : Layout) where
               slots = x .images .slots;
             };
         book = x .book;
+        written = x .written;
       }
+
+  -- the read of page i that names `lost`, into a buffer of W bytes, is not refused, says that its page was got so, and the buffer equals
+  -- the book's page
+  abbrev pub ReadGives : ℕ → World → ℕ → Origin → Type 0
+  ReadGives lost x i o =
+      (buffer : List ℕ) → length buffer ≡ W
+      → (n : Counts)
+      × (_≡_ {A = ReadOutcome} (readCall l (x .images) lost i buffer)
+      (record { answer = ReadDone n o; buffer = x .book i }))
 
   -- "the read of each logical page below N × S that names that chip, into a buffer of W bytes, is not refused, and the
   -- buffer equals the book's page"
   abbrev pub ReadsTheBook : ℕ → World → Type 0
-  ReadsTheBook lost x =
-      (i : ℕ) → i < N * S → (buffer : List ℕ) → length buffer ≡ W
-      → (n : Counts)
-      × (_≡_ {A = ReadOutcome} (readCall l (x .images) lost i buffer)
-      (record { answer = ReadDone n; buffer = x .book i }))
+  ReadsTheBook lost x = (i : ℕ) → i < N * S → (o : Origin) × ReadGives lost x i o
+
+  -- document 02, 2, with that chip named: "never written" where no write of page i was completed; else "read directly", but where the chip
+  -- is its own "rebuilt", "through the partial parity" exactly where its bit is set
+  abbrev pub originOwed : ℕ → World → ℕ → Origin
+  originOwed lost x i =
+      cond (x .written i)
+      (cond (eqb (memberChip l (stripeOf l i) (memberOf l i)) lost)
+      (cond (bit (recordAt l (x .images .records) (stripeOf l i)) (memberOf l i)) Partial Full)
+      Direct)
+      Unwritten
+
+  -- each of those reads says so
+  abbrev pub TellsTheOrigin : ℕ → World → Type 0
+  TellsTheOrigin lost x = (i : ℕ) → i < N * S → ReadGives lost x i (originOwed lost x i)
 
   -- document 02, 1, of the book's log, with these counts: "the one standing if it is a weight, else none"; refused "with 11" where a ticket
-  -- "found before the log's end" breaks the rules
-  abbrev pub bookFinding : Counts → Book → ℕ → ℕ → Finding
-  bookFinding n book lot bag = cond (logSound l book) (FindDone n (standing l book lot bag)) (FindRefused Tickets)
+  -- "found before the log's end" breaks the rules. And document 02, 2: how its pages were got.
+  abbrev pub bookFinding : Counts → ℕ → World → ℕ → ℕ → Finding
+  bookFinding n lost x lot bag =
+      cond (logSound l (x .book))
+      (FindDone n (standing l (x .book) lot bag) (logOrigin l (x .book) (originOwed lost x) lot bag))
+      (FindRefused Tickets)
 
   -- each question for a lot and bag that names that chip is answered so
   abbrev pub FindsTheBook : ℕ → World → Type 0
   FindsTheBook lost x =
-      (lot bag : ℕ) → (n : Counts) × (findCall l (x .images) lost lot bag ≡ bookFinding n (x .book) lot bag)
+      (lot bag : ℕ) → (n : Counts) × (findCall l (x .images) lost lot bag ≡ bookFinding n lost x lot bag)
 
   -- "the images as a finished format left them"
   pub record Finished : Type 0 where
@@ -83,7 +113,12 @@ module _ (l : Layout) where
 
   -- "The first list starts from the images as a finished format left them."
   abbrev pub start : Finished → World
-  start f = record { images = formatCall l (f .images) (f .allowance) .images; book = finished l }
+  start f =
+      record {
+        images = formatCall l (f .images) (f .allowance) .images;
+        book = finished l;
+        written = λ i. false;
+      }
 
   -- what is owed after both lists: a finished format, any first list of calls, any bytes on any one chip, any second list that names it;
   -- and with no chip taken, the first list alone

@@ -3,6 +3,7 @@ pub mod Blocks
 pub mod Sound
 pub mod Fetch
 pub mod Read
+pub mod Origins
 pub mod Costs
 pub mod Parity
 pub mod Place

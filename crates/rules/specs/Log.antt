@@ -11,10 +11,17 @@ use Rattle.layout.specs.Images.{Images}
 use Rattle.steps.specs.Steps.{Step}
 use Rattle.rules.specs.declared.Ticket.{Ticket}
 use Rattle.rules.specs.declared.Standing.{Standing}
-use Rattle.rules.specs.declared.Standing.the-variants.{Nothing}
+use Rattle.rules.specs.declared.Standing.the-variants.{Weighed, Nothing}
+use Rattle.rules.specs.declared.Origin.{Origin}
 use Rattle.rules.specs.Read.{fetch}
+use Rattle.rules.specs.Origins.{lastOrigin}
 use Rattle.rules.specs.Write.{writeSteps}
 use Rattle.rules.specs.Tickets.{ticketBytes, ticketOf, isEmpty, ticketSound, isFor, weightOf}
+
+-- a ticket that is given carries the one, "any other reading of the log" the other
+abbrev pub carried : Standing → Origin → Origin → Origin
+carried (Weighed w) its any = its
+carried Nothing its any = any
 
 module _ (l : Layout) where
   open Layout l using (N, W, S)
@@ -68,6 +75,13 @@ module _ (l : Layout) where
     unfoldable pub logPages : ℕ
     logPages = whenFound logEnd (λ t. fallsIn t + 1) (N * S)
 
+    -- document 02, 2, where o tells how each page was got: "a ticket given carries its page's, any other reading of the log the last in that
+    -- order among its pages"
+    unfoldable pub logOrigin : (ℕ → Origin) → ℕ → ℕ → Origin
+    logOrigin o lot bag =
+        whenFound (latest lot bag) (λ t. carried (weightOf (ticketAt t)) (o (fallsIn t)) (lastOrigin logPages o))
+        (lastOrigin logPages o)
+
     -- "Adding one rewrites the page it falls in, other bytes kept": that page with the ticket at place t
     unfoldable pub withTicket : List ℕ → ℕ → List ℕ
     withTicket ticket t = unitPut ticketBytes (t % perPage) ticket (f (fallsIn t))
@@ -75,6 +89,10 @@ module _ (l : Layout) where
   -- what the pages of a store read as
   abbrev pub contents : Images → ℕ → ℕ → List ℕ
   contents s lost i = fetch l s lost i .bytes
+
+  -- how they are got
+  abbrev pub origins : Images → ℕ → ℕ → Origin
+  origins s lost i = fetch l s lost i .origin
 
   -- "counts the reads of each page up to and including the log's end once"
   unfoldable pub logReads : Images → ℕ → ℕ

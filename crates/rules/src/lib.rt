@@ -9,7 +9,7 @@ pub enum Role {
     Parity,
 }
 
-// How the bytes of a page were got.
+// How the bytes of a page were got; document 02, 2: "one of four things", in its order.
 pub enum Origin {
     // never written: there is no page
     Unwritten,
@@ -54,7 +54,7 @@ pub enum Answer {
 
 // The answer of a read, which stores nothing and so is never cut.
 pub enum Reading {
-    Done(Counts),
+    Done(Counts, Origin),
     Refused(Refusal),
 }
 
@@ -85,6 +85,6 @@ pub enum Standing {
 
 // The answer of a question for a lot and bag, which stores nothing.
 pub enum Finding {
-    Done(Counts, Standing),
+    Done(Counts, Standing, Origin),
     Refused(Refusal),
 }

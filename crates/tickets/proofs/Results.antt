@@ -81,11 +81,11 @@ module _ (g : Geometry) (s : Images) (lost : ℕ) where
     find-broken e told h = rw (below-passed (imagesRows l s lost) (logRow l s lost ∷ []) e, told-sound l s lost lot bag told ∙ h)
 
     pub find-done : {w : Walk} → checked (imagesRows l s lost) ≡ Passed → w ≡ walkOf l s lost lot bag → w .sound ≡ true
-        → FindDone (reading (w .reads)) (w .standing) ≡ findCall l s lost lot bag
+        → FindDone (reading (w .reads)) (w .standing) (w .origin) ≡ findCall l s lost lot bag
     unfolding findCall findRows
     find-done e told h =
         let t = told-whole l s lost lot bag told h in
-        rw (below-passed (imagesRows l s lost) (logRow l s lost ∷ []) e, t .0, t .2, t .3)
+        rw (below-passed (imagesRows l s lost) (logRow l s lost ∷ []) e, t .0, t .2, t .3, t .4)
 
   -- ---- add
 

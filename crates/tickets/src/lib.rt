@@ -178,6 +178,7 @@ pub fn find(
         return Finding::Refused(Refusal::Tickets);
     }
     let standing = log.standing;
+    let origin = log.origin;
     Finding::Done(
         Counts {
             reads: log.reads,
@@ -186,5 +187,6 @@ pub fn find(
             stores: 0,
         },
         standing,
+        origin,
     )
 }

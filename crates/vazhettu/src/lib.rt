@@ -1,17 +1,19 @@
 //! The calls for C and Rust: slices as pointer and length, the answer as a struct of numbers.
 
 use answers::FindReport;
+use answers::ReadReport;
 use answers::Report;
-use answers::refusal_number;
+use answers::origin_number;
 use answers::with_counts;
+use answers::with_origin;
 use answers::with_standing;
 use answers::without_counts;
+use answers::without_origin;
+use answers::without_standing;
 use layout::Geometry;
 use rules::Answer;
 use rules::Finding;
 use rules::Reading;
-use rules::Standing;
-use steps::Counts;
 ghost use mathlib.Core.Path.{_≡_};
 ghost use Rattle.layout.specs.Layout.{layoutOf};
 ghost use Rattle.steps.specs.Allowance.{images};
@@ -30,12 +32,12 @@ fn report_of(a: Answer) -> Report
 }
 
 // A report of the answer of a read.
-fn read_report_of(a: Reading) -> Report
+fn read_report_of(a: Reading) -> ReadReport
     ensures { λ r. ⌜ r ≡ readReported a ⌝ }
 {
     match a {
-        Reading::Done(c) => with_counts(0, c),
-        Reading::Refused(r) => without_counts(r),
+        Reading::Done(c, o) => with_origin(0, c, origin_number(o)),
+        Reading::Refused(r) => without_origin(r),
     }
 }
 
@@ -44,16 +46,8 @@ fn find_report_of(a: Finding) -> FindReport
     ensures { λ r. ⌜ r ≡ findReported a ⌝ }
 {
     match a {
-        Finding::Done(c, x) => with_standing(0, c, x),
-        Finding::Refused(r) => {
-            let none = Counts {
-                reads: 0,
-                programs: 0,
-                erases: 0,
-                stores: 0,
-            };
-            with_standing(refusal_number(r), none, Standing::Nothing)
-        }
+        Finding::Done(c, x, o) => with_standing(0, c, x, origin_number(o)),
+        Finding::Refused(r) => without_standing(r),
     }
 }
 
@@ -100,7 +94,7 @@ pub extern "C" fn vazhettu_read(
     lost: u64,
     page: u64,
     buffer: &mut [u8],
-) -> Report
+) -> ReadReport
     ensures { λ r. ⌜ _≡_ {A = ReadReported}
         (record { report = r; buffer = now (buffer .exit) })
         (readReportedOf (readCall (layoutOf g) (images (now (chips .entry)) (now (records .entry)) (now (slots .entry))) lost page (now (buffer .entry)))) ⌝ }

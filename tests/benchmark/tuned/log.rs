@@ -1,8 +1,11 @@
 //! The log of tickets, walked stripe by stripe.
 
 use super::check::Look;
-use super::{number, rebuild};
-use crate::reference::{Refusal, Shape, MEMBERS, NONE, RECORD_BYTES, TICKET_BYTES, WEIGHT, WITHDRAWAL};
+use super::{number, rebuild, DIRECT, UNWRITTEN};
+use crate::library::Answer;
+use crate::reference::{
+    Refusal, Shape, Status, MEMBERS, NONE, RECORD_BYTES, TICKET_BYTES, WEIGHT, WITHDRAWAL,
+};
 use std::ops::RangeInclusive;
 
 /// The most bytes to a page.
@@ -21,8 +24,11 @@ pub struct Log {
     pub reads: u64,
     /// The page of its end, and the first byte there that is no ticket's; nothing if it fills every page.
     pub end: Option<(usize, usize)>,
-    /// The last ticket of the lot and bag.
-    pub standing: Option<Bytes>,
+    /// The last ticket of the lot and bag, and how its page was got.
+    standing: Option<(Bytes, u64)>,
+    /// How the page was got that is looked at, and the greatest of all.
+    origin: u64,
+    greatest: u64,
 }
 
 /// The tickets of one lot and bag.
@@ -109,8 +115,8 @@ impl<'a> Pages<'a> {
         (member + (member >= self.parity_chip) as usize, number(self.record, 2 * member))
     }
 
-    /// A member's page and its reads, or nothing if it was never written.
-    fn page(&mut self, member: usize) -> Option<(&[u8], u64)> {
+    /// A member's page, its reads and how it was got, or nothing if it was never written.
+    fn page(&mut self, member: usize) -> Option<(&[u8], u64, u64)> {
         let w = self.look.shape.w;
         let (chip, current) = self.place(member);
         if current == NONE {
@@ -118,25 +124,27 @@ impl<'a> Pages<'a> {
         }
         let copy = &mut self.copies[member * w..][..w];
         if chip == self.lost {
-            let reads = rebuild(self.look, self.stripe, member, copy);
-            return Some((copy, reads));
+            let (reads, origin) = rebuild(self.look, self.stripe, member, copy);
+            return Some((copy, reads, origin));
         }
-        Some((if self.copied { copy } else { self.look.data(chip, current) }, 1))
+        Some((if self.copied { copy } else { self.look.data(chip, current) }, 1, DIRECT))
     }
 }
 
 pub fn walk(look: Look, lost: Option<usize>, wanted: Wanted) -> Result<Log, Refusal> {
     let Shape { n, s, .. } = look.shape;
     let mut pages = Pages::new(look, lost);
-    let mut log = Log { reads: 0, end: None, standing: None };
+    let mut log = Log { reads: 0, end: None, standing: None, origin: UNWRITTEN, greatest: UNWRITTEN };
     for stripe in 0..s {
         pages.begin(stripe);
         for member in 0..n {
             let number = stripe * n + member;
-            let Some((page, reads)) = pages.page(member) else {
+            let Some((page, reads, origin)) = pages.page(member) else {
                 return Ok(Log { end: Some((number, 0)), ..log });
             };
             log.reads += reads;
+            log.origin = origin;
+            log.greatest = log.greatest.max(origin);
             if let Some(at) = log.see(page, wanted) {
                 let end = Some((number, at));
                 return if page[at] == 0 { Ok(Log { end, ..log }) } else { Err(Refusal::Ticket) };
@@ -172,17 +180,20 @@ impl Log {
                 return Some(i);
             }
             if wanted.is(ticket) {
-                self.standing = Some(*ticket);
+                self.standing = Some((*ticket, self.origin));
             }
         }
         None
     }
 
-    /// Whether a weight stands, gross and tare.
-    pub fn weight(&self) -> [u64; 3] {
-        match &self.standing {
-            Some(ticket) if ticket[0] == WEIGHT => [1, word(ticket, 8) as u64, word(ticket, 12) as u64],
-            _ => [0; 3],
+    /// What a question is answered.
+    pub fn answer(&self) -> Answer {
+        let status = Status { reads: self.reads, ..Status::default() };
+        match self.standing {
+            Some((ticket, origin)) if ticket[0] == WEIGHT => {
+                Answer { status, found: [1, word(&ticket, 8) as u64, word(&ticket, 12) as u64], origin }
+            }
+            _ => Answer { status, found: [0; 3], origin: self.greatest },
         }
     }
 }

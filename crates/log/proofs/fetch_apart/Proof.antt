@@ -26,10 +26,11 @@ lent s = images (now (s .args .chips)) (now (s .args .records)) (now (s .args .s
 returns : tie.Need-returns
 returns c =
     let s = c .before .before .before .before .before in
-    let a = s .args in (
-      ap (λ (x : Fetched). x .reads)
-          (direct-is (layout s) (lent s) (a .lost) (a .at .stripe) (a .at .member) (sym (s .pre .7) ∙ c .if1 .taken) ∙ at-fetch (layout s) (inside s) (s .pre .5) (lent s) (a .lost)),
+    let a = s .args in
+    let is = direct-is (layout s) (lent s) (a .lost) (a .at .stripe) (a .at .member) (sym (s .pre .7) ∙ c .if1 .taken) ∙ at-fetch (layout s) (inside s) (s .pre .5) (lent s) (a .lost) in (
+      ap (λ (x : Fetched). x .reads) is,
       omega arith,
+      ap (λ (x : Fetched). x .origin) is,
       λ e. both _ (c .if1 .taken) e,
     )
 
@@ -44,7 +45,7 @@ returns-2 c =
     let f = c .before .before .fetch-member in
     let s = c .before .before .before .before .before .before .before .before .before in
     let is = f .ensures .0 ∙ at-fetch (layout s) (inside s) (s .pre .5) (lent s) (s .args .lost) in
-    (ap (λ (x : Fetched). x .reads) is, f .ensures .1, λ e. ap (λ (x : Fetched). x .bytes) is)
+    (ap (λ (x : Fetched). x .reads) is, f .ensures .1, ap (λ (x : Fetched). x .origin) is, λ e. ap (λ (x : Fetched). x .bytes) is)
 
 pub fetch-apart-spec : {M : Type 1} → statement M
 fetch-apart-spec = tie.close (tie.spec returns fetch-member-requires (λ c. search needs) returns-2)

@@ -62,7 +62,7 @@ page-is c =
     sym (ap (λ (x : Fetched). x .bytes)
     (direct-is l (given s) (a .lost) (a .at .stripe) (a .at .member) (sym (c .before .before .before .before .before .before .is-direct .ensures) ∙ e) ∙ at-fetch l (inside s) (s .pre .5) (given s) (a .lost)))
     ∙ sym (c .lent .ensures .0 ∙ rw e))
-    (λ e. sym (c .before .before .before .before .fetch-apart .ensures .2 e) ∙ sym (c .lent .ensures .0 ∙ rw e))
+    (λ e. sym (c .before .before .before .before .fetch-apart .ensures .3 e) ∙ sym (c .lent .ensures .0 ∙ rw e))
 
 returns : tie.Need-returns
 returns c =
@@ -73,7 +73,8 @@ returns c =
       shows = rw is (c .before .look-at .ensures);
       reads = k .before .before .before .before .fetch-apart .ensures .0;
       few = k .before .before .before .before .fetch-apart .ensures .1;
-      stands = rw is (c .latest-of .ensures);
+      origin = k .before .before .before .before .fetch-apart .ensures .2;
+      stands = rw (is, sym (k .before .before .before .before .fetch-apart .ensures .2)) (c .latest-of .ensures);
     }
 
 pub look-at-page-spec : {M : Type 1} → statement M

@@ -20,11 +20,11 @@ use Rattle.log.proofs.walk_log.Statement.{statement}
 use Rattle.log.proofs.walk_log.Tie as tie
 
 abbrev Inv-loop : tie.InvT-loop
-Inv-loop work₀ chips records slots g lost lot bag per pages latest₀ reads₀ at₀ work latest reads at =
-    (length work ≡ g .w) × (at ≡ positionOf (layoutOf g) (at .page)) × Going (layoutOf g) (images chips records slots) lost lot bag latest reads (at .page)
+Inv-loop work₀ chips records slots g lost lot bag per pages latest₀ reads₀ last₀ at₀ work latest reads last at =
+    (length work ≡ g .w) × (at ≡ positionOf (layoutOf g) (at .page)) × Going (layoutOf g) (images chips records slots) lost lot bag latest last reads (at .page)
 
 abbrev μ-loop : tie.MeasureT-loop
-μ-loop work₀ chips records slots g lost lot bag per pages latest₀ reads₀ at₀ work latest reads at = pages - at .page
+μ-loop work₀ chips records slots g lost lot bag per pages latest₀ reads₀ last₀ at₀ work latest reads last at = pages - at .page
 
 -- what the function was called with
 abbrev layout : tie.Start Inv-loop μ-loop → Layout
@@ -67,40 +67,41 @@ look-at-page-requires c κs =
 looked : (k : tie.After-look-at-page Inv-loop μ-loop)
     → let o = k .before .before .before .before .loop in
     let s = k .before .before .before .before .before .before .before .before .before .before in
-    Next (layout s) (given s) (s .args .lost) (s .args .lot) (s .args .bag) (o .reads) (o .at .page) (k .look-at-page .result)
+    Next (layout s) (given s) (s .args .lost) (s .args .lot) (s .args .bag) (o .last) (o .reads) (o .at .page) (k .look-at-page .result)
 looked k =
     let s = k .before .before .before .before .before .before .before .before .before .before in
     next (layout s) (given s) (s .args .lost) (s .args .lot) (s .args .bag) (k .before .before .before .before .loop .inv .2) (k .before .before .if1 .taken) (k .look-at-page .ensures)
 
 returns : tie.Need-returns Inv-loop μ-loop
 returns c =
-    let k = c .before .before .before .before .before .before .before .before in
+    let k = c .before .before .before .before .before .before .before .before .before in
     let s = k .before .before .before .before .before .before .before .before .before .before in
     walk-broken (layout s) (given s) (s .args .lost) (s .args .lot) (s .args .bag) (inside s) (looked k) (c .broken .ensures) (not-true _ (c .before .if2 .taken))
 
 returns-2 : tie.Need-returns-2 Inv-loop μ-loop
 returns-2 c =
-    let k = c .before .before .before .before .before .before .before .before .before .before .before .before in
+    let k = c .before .before .before .before .before .before .before .before .before .before .before .before .before in
     let s = k .before .before .before .before .before .before .before .before .before .before in
-    rw (per-page s)
-    (walk-ended (layout s) (given s) (s .args .lost) (s .args .lot) (s .args .bag) (inside s) (looked k) (c .standing-of .ensures) (not-false _ (c .before .before .before .before .before .if2 .left)) (rw (per-page s) at (c .before .before .before .if3 .taken)))
+    let told = c .before .before .before .before .before .before .before .before .later .ensures in
+    walk-ended (layout s) (given s) (s .args .lost) (s .args .lot) (s .args .bag) (inside s) (looked k)
+    (rw (told, per-page s) at (c .whole .ensures)) (not-false _ (c .before .before .before .before .before .if2 .left)) (rw (per-page s) at (c .before .before .before .if3 .taken))
 
 loop-again : tie.Need-loop-again Inv-loop μ-loop
 loop-again c =
-    let k = c .before .before .before .before .before .before .before .before .before .before in
+    let k = c .before .before .before .before .before .before .before .before .before .before .before in
     let s = k .before .before .before .before .before .before .before .before .before .before in
     let o = k .before .before .before .before .loop in
     let is = c .next-page .ensures in
     let page = ap (λ (p : Position). p .page) is in (
       k .look-at-page .kept .0 ∙ o .inv .0,
       is ∙ ap (λ (i : ℕ). positionOf (layout s) i) (sym page),
-      rw page (goes-on (layout s) (given s) (s .args .lost) (s .args .lot) (s .args .bag) (looked k) (rw (per-page s) at (c .before .if3 .left))),
+      rw page (goes-on (layout s) (given s) (s .args .lost) (s .args .lot) (s .args .bag) (looked k) (c .before .before .before .before .before .before .later .ensures) (rw (per-page s) at (c .before .if3 .left))),
     )
 
 returns-3 : tie.Need-returns-3 Inv-loop μ-loop
 returns-3 c =
     let s = c .before .before .before .before .before .before .before .before .before in
-    walk-full (layout s) (given s) (s .args .lost) (s .args .lot) (s .args .bag) (inside s) (c .standing-of2 .ensures) (c .before .before .before .loop .inv .2) (c .before .if1 .left)
+    walk-full (layout s) (given s) (s .args .lost) (s .args .lot) (s .args .bag) (inside s) (c .whole2 .ensures) (c .before .before .before .loop .inv .2) (c .before .if1 .left)
 
 pub walk-log-spec : {M : Type 1} → statement M
 walk-log-spec =
@@ -116,17 +117,18 @@ walk-log-spec =
     let k = c .before .before .before in
     search (needs, few-pages (k .before .before .before .before .before .before .before .before .before .before), looked k .few, looked k .inside))
     (λ c κs. search needs)
-    (λ c. let k = c .before .before .before .before .before .before .before .before in k .look-at-page .kept .0 ∙ k .before .before .before .before .loop .inv .0 ∙ sym (k .before .before .before .before .before .before .before .before .before .before .pre .3))
+    (λ c κs. search needs)
+    (λ c. let k = c .before .before .before .before .before .before .before .before .before in k .look-at-page .kept .0 ∙ k .before .before .before .before .loop .inv .0 ∙ sym (k .before .before .before .before .before .before .before .before .before .before .pre .3))
     returns
-    (λ c. let k = c .before .before .before .before .before .before .before .before .before .before in search (needs, few-places (k .before .before .before .before .before .before .before .before .before .before) (k .before .before .before .before .loop .at .page) (looked k .inside)))
+    (λ c. let k = c .before .before .before .before .before .before .before .before .before .before .before in search (needs, few-places (k .before .before .before .before .before .before .before .before .before .before) (k .before .before .before .before .loop .at .page) (looked k .inside)))
     (λ c.
-    let k = c .before .before .before .before .before .before .before .before .before .before .before in
+    let k = c .before .before .before .before .before .before .before .before .before .before .before .before in
     search (needs, few-places (k .before .before .before .before .before .before .before .before .before .before) (k .before .before .before .before .loop .at .page) (looked k .inside), c .before .before .if3 .taken, per-page (k .before .before .before .before .before .before .before .before .before .before), inside (k .before .before .before .before .before .before .before .before .before .before) .bytes-high))
     (λ c κs. search needs)
-    (λ c. let k = c .before .before .before .before .before .before .before .before .before .before .before .before in k .look-at-page .kept .0 ∙ k .before .before .before .before .loop .inv .0 ∙ sym (k .before .before .before .before .before .before .before .before .before .before .pre .3))
+    (λ c. let k = c .before .before .before .before .before .before .before .before .before .before .before .before .before in k .look-at-page .kept .0 ∙ k .before .before .before .before .loop .inv .0 ∙ sym (k .before .before .before .before .before .before .before .before .before .before .pre .3))
     returns-2
-    (λ c κs. let k = c .before .before .before .before .before .before .before .before .before in (k .before .before .before .before .before .before .before .before .before .before .pre .0 .limited, k .before .before .before .before .loop .inv .1, looked k .inside))
-    (λ c. let k = c .before .before .before .before .before .before .before .before .before .before in omega (arith, ap (λ (p : Position). p .page) (c .next-page .ensures), looked k .inside))
+    (λ c κs. let k = c .before .before .before .before .before .before .before .before .before .before in (k .before .before .before .before .before .before .before .before .before .before .pre .0 .limited, k .before .before .before .before .loop .inv .1, looked k .inside))
+    (λ c. let k = c .before .before .before .before .before .before .before .before .before .before .before in omega (arith, ap (λ (p : Position). p .page) (c .next-page .ensures), looked k .inside))
     loop-again
     (λ c κs. search needs)
     (λ c. c .before .before .before .loop .inv .0 ∙ sym (c .before .before .before .before .before .before .before .before .before .pre .3))

@@ -16,12 +16,12 @@ use Rattle.layout.proofs.Limits.{Within}
 use Rattle.layout.proofs.Rotations.{parity-chip-fits, member-chip-fits, stripe-fits, page-chip-fits}
 use Rattle.layout.proofs.Records.{same-bit, same-slotted}
 use Rattle.rules.specs.Names.{mainNumber, sideNumber}
-use Rattle.rules.specs.Fetch.{Fetched, itself, underParity}
+use Rattle.rules.specs.Fetch.{itself, underParity}
 use Rattle.rules.specs.Read.{fetch}
 use Rattle.rules.proofs.Soundness.Statements.{Usable, Sound}
 use Rattle.rules.proofs.Stores.Names.{main-member, side-member, main-parity}
 use Rattle.rules.proofs.Stores.Kept.{CopiesOf, Same, Kept}
-use Rattle.rules.proofs.Data.Contents.{currentInside, StripeData, Data, bytes-none, gathered-cong}
+use Rattle.rules.proofs.Data.Contents.{currentInside, StripeData, Data, directly, page-itself, bytes-page, bytes-none, gathered-cong}
 use Rattle.rules.proofs.Data.Rebuild.{fetch-unwritten, fetch-direct}
 use Rattle.rules.proofs.Data.Feeds.{currentOutside, oldInside, parityBytes}
 
@@ -33,15 +33,15 @@ module _ (l : Layout) where
     pub sound : Sound l t
     pub copies : CopiesOf l s → CopiesOf l t
     pub data-too : CopiesOf l s → Data l s → Data l t
-    pub reads : CopiesOf l s → (i : ℕ) → i < N * S → fetch l t noChip i .bytes ≡ fetch l s noChip i .bytes
+    pub reads : CopiesOf l s → (i : ℕ) → i < N * S → fetch l t noChip i ≡ fetch l s noChip i
 
   -- t is s with the write of logical page p made
   pub record Wrote (p : ℕ) (xs : List ℕ) (s t : Images) : Type 0 where
     pub sound : Sound l t
     pub copies : CopiesOf l s → CopiesOf l t
     pub data-too : CopiesOf l s → Data l s → Data l t
-    pub here : fetch l t noChip p .bytes ≡ xs
-    pub elsewhere : CopiesOf l s → (i : ℕ) → i < N * S → i ≢ p → fetch l t noChip i .bytes ≡ fetch l s noChip i .bytes
+    pub here : fetch l t noChip p ≡ directly xs
+    pub elsewhere : CopiesOf l s → (i : ℕ) → i < N * S → i ≢ p → fetch l t noChip i ≡ fetch l s noChip i
 
   -- nothing lost in no stores, and in one list of stores after another
   pub carries-refl : (s : Images) → Sound l s → Carries s s
@@ -126,22 +126,29 @@ module _ (l : Layout) where
         parity-kept y y′ j r r refl main side,
       )
 
-  -- a page whose number names the same bytes as before
+  -- a number that names the same bytes as before
+  same-itself : (y y′ : ℕ → ℕ → Page) (c p p′ : ℕ) → p ≢ none l → p′ ≢ none l → itself l y′ c p′ .bytes ≡ itself l y c p .bytes
+      → itself l y′ c p′ ≡ itself l y c p
+  same-itself y y′ c p p′ d d′ e =
+      page-itself l y′ c p′ d′
+      ∙ ap directly (sym (bytes-page l y′ c p′ d′) ∙ e ∙ bytes-page l y c p d)
+      ∙ sym (page-itself l y c p d)
+
+  -- a page whose number does
   pub same-read : Within l → (s t : Images) (i : ℕ)
       → Same l (pageAt l (s .chips)) (pageAt l (t .chips)) (memberChip l (stripeOf l i) (memberOf l i))
       (recordAt l (s .records) (stripeOf l i) .current (memberOf l i)) (recordAt l (t .records) (stripeOf l i) .current (memberOf l i))
-      → fetch l t noChip i .bytes ≡ fetch l s noChip i .bytes
+      → fetch l t noChip i ≡ fetch l s noChip i
   same-read w s t i same =
       let c = memberChip l (stripeOf l i) (memberOf l i) in
       let p = recordAt l (s .records) (stripeOf l i) .current (memberOf l i) in
       let p′ = recordAt l (t .records) (stripeOf l i) .current (memberOf l i) in
       elim (ℕ-discrete p (none l)) [
         | yes e ↦
-            ap (λ (x : Fetched). x .bytes)
-            (fetch-unwritten l t noChip i (eqb-true p′ (none l) (same .none-too ∙ eq-eqb p (none l) e)) ∙ sym (fetch-unwritten l s noChip i e))
+            fetch-unwritten l t noChip i (eqb-true p′ (none l) (same .none-too ∙ eq-eqb p (none l) e)) ∙ sym (fetch-unwritten l s noChip i e)
         | no d ↦
             let d′ : p′ ≢ none l = λ e. d (eqb-true p (none l) (sym (same .none-too) ∙ eq-eqb p′ (none l) e)) in
-            fetch-direct l w t i d′ ∙ same .bytes ∙ sym (fetch-direct l w s i d)
+            fetch-direct l w t i d′ ∙ same-itself (pageAt l (s .chips)) (pageAt l (t .chips)) c p p′ d d′ (same .bytes) ∙ sym (fetch-direct l w s i d)
       ]
 
   -- what keeps every number's bytes keeps both groups and every read

@@ -24,8 +24,13 @@ use Rattle.layout.proofs.Limits.{Within}
 use Rattle.layout.proofs.Bits.{bit-test, nonzero-has-bit}
 use Rattle.layout.proofs.Rotations.{member-chip-fits}
 use Rattle.layout.proofs.Records.{bits-of-none}
-use Rattle.rules.specs.Fetch.{itself, membersFeed, gathered, underParity}
+use Rattle.rules.specs.declared.Origin.the-variants.{Direct}
+use Rattle.rules.specs.Fetch.{Fetched, itself, membersFeed, gathered, underParity}
 use Rattle.rules.proofs.Soundness.Statements.{Numbered, RecordSound}
+
+-- what is found of a page that is there
+abbrev pub directly : List ℕ → Fetched
+directly xs = record { bytes = xs; reads = 1; origin = Direct }
 
 module _ (l : Layout) where
   open Layout l using (N, W, S, M)
@@ -53,9 +58,12 @@ module _ (l : Layout) where
   unfolding itself
   bytes-none y c = rw (eq-eqb (none l) (none l) refl)
 
-  pub bytes-page : (y : ℕ → ℕ → Page) (c p : ℕ) → p ≢ none l → itself l y c p .bytes ≡ y c p .bytes
+  pub page-itself : (y : ℕ → ℕ → Page) (c p : ℕ) → p ≢ none l → itself l y c p ≡ directly (y c p .bytes)
   unfolding itself
-  bytes-page y c p d = rw (ne-eqb p (none l) d)
+  page-itself y c p d = rw (ne-eqb p (none l) d)
+
+  pub bytes-page : (y : ℕ → ℕ → Page) (c p : ℕ) → p ≢ none l → itself l y c p .bytes ≡ y c p .bytes
+  bytes-page y c p d = ap (λ (x : Fetched). x .bytes) (page-itself y c p d)
 
   bytes-at-none : (y : ℕ → ℕ → Page) (c p : ℕ) → p ≡ none l → itself l y c p .bytes ≡ []
   bytes-at-none y c p e = rw e (bytes-none y c)

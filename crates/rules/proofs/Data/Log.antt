@@ -1,9 +1,9 @@
 -- The log of document 02, 1: it depends on the bytes of the logical pages alone; and a page with one ticket more.
-use Prim.Native.Nat.{ℕ, _*_, _%_, _≤_, _<_}
-use native.Mathlib.Nat.{div-lt-iff-lt-mul, div-add-mod', mod-lt, lt-of-lt-of-le, le-refl}
+use Prim.Native.Nat.{ℕ, zero, suc, _*_, _%_, _≤_, _<_}
+use native.Mathlib.Nat.{div-lt-iff-lt-mul, div-add-mod', mod-lt, lt-of-lt-of-le, le-refl, le-step, lt-suc-self}
 use native.Mathlib.Decide.{ℕ-discrete}
 use native.Mathlib.Omega.{arith}
-use mathlib.Core.Path.{_≡_, sym, ap, _∙_}
+use mathlib.Core.Path.{_≡_, refl, sym, ap, _∙_}
 use mathlib.Core.List.{List}
 use lib.ListN.{length, length-replicate}
 use Rattle.ranges.specs.declared.Found.the-variants.{At}
@@ -19,12 +19,19 @@ use Rattle.layout.specs.Record.{recordAt}
 use Rattle.layout.specs.Images.{Images}
 use Rattle.layout.proofs.Limits.{Within}
 use Rattle.layout.proofs.Rotations.{stripe-fits, member-fits, page-chip-fits}
+use Rattle.rules.specs.declared.Origin.{Origin}
 use Rattle.rules.specs.Fetch.{Fetched}
+use Rattle.rules.specs.Origins.{lastOrigin}
 use Rattle.rules.specs.Tickets.{ticketBytes, ticketOf, isEmpty, ticketSound, isFor, weightOf}
-use Rattle.rules.specs.Log.{perPage, places, fallsIn, bytesAt, ticketAt, logEnd, logLength, logSound, latest, standing, withTicket, contents}
+use Rattle.rules.specs.Log.{perPage, places, fallsIn, bytesAt, ticketAt, logEnd, logLength, logSound, latest, standing, logPages, logOrigin, withTicket, contents}
 use Rattle.rules.proofs.Soundness.Statements.{Sound, sound-member}
 use Rattle.rules.proofs.Data.Contents.{length-bytes, pages-whole}
 use Rattle.rules.proofs.Data.Rebuild.{fetch-unwritten, fetch-direct}
+
+last-origin-cong : (n : ℕ) (o p : ℕ → Origin) → ((i : ℕ) → i < n → o i ≡ p i) → lastOrigin n o ≡ lastOrigin n p
+unfolding lastOrigin
+last-origin-cong zero o p h = refl
+last-origin-cong (suc n) o p h = rw (last-origin-cong n o p (λ i b. h i (le-step b)), h n (lt-suc-self n))
 
 module _ (l : Layout) where
   open Layout l using (N, W, S)
@@ -56,6 +63,10 @@ module _ (l : Layout) where
 
     pub page-fits : (t : ℕ) → t < places l → fallsIn l t < N * S
     page-fits t h = div-lt-iff-lt-mul some-tickets .1 h
+
+    pages-most : (f : ℕ → List ℕ) → logPages l f ≤ N * S
+    unfolding logPages whenFound
+    pages-most f = by-found (logEnd l f) (λ t e. rw e (omega (arith, page-fits t (end-fits f t e)))) (λ e. rw e (le-refl (N * S)))
 
     -- ---- the log of the same pages is the same
 
@@ -98,6 +109,23 @@ module _ (l : Layout) where
           (λ t e. rw (latest-same lot bag, e) (ap (λ xs. weightOf (ticketOf xs)) (bytes-same t (latest-fits g lot bag t e))))
           (λ e. rw (latest-same lot bag, e))
 
+      pages-same : logPages l f ≡ logPages l g
+      unfolding logPages
+      pages-same = rw end-same
+
+      -- and so is how it was got, where each page was got alike
+      module _ (o p : ℕ → Origin) (told : (i : ℕ) → i < N * S → o i ≡ p i) where
+        all-told : lastOrigin (logPages l f) o ≡ lastOrigin (logPages l g) p
+        all-told = rw pages-same (last-origin-cong (logPages l g) o p (λ i h. told i (lt-of-lt-of-le h (pages-most g))))
+
+        pub origin-same : (lot bag : ℕ) → logOrigin l f o lot bag ≡ logOrigin l g p lot bag
+        unfolding logOrigin whenFound
+        origin-same lot bag = by-found (latest l g lot bag)
+            (λ t e.
+            let fits = latest-fits g lot bag t e in
+            rw (latest-same lot bag, e, bytes-same t fits, told (fallsIn l t) (page-fits t fits), all-told))
+            (λ e. rw (latest-same lot bag, e, all-told))
+
     -- ---- a ticket put into its page
 
     -- two places in one page are two tickets of it
@@ -134,7 +162,7 @@ module _ (l : Layout) where
         elim (ℕ-discrete (r .current (memberOf l i)) (none l)) [
           | yes e ↦ ap (λ (x : Fetched). length (x .bytes)) (fetch-unwritten l s noChip i e) ∙ length-replicate W 0
           | no d ↦
-              ap length (fetch-direct l w s i d)
+              ap (λ (x : Fetched). length (x .bytes)) (fetch-direct l w s i d)
               ∙ length-bytes l (pageAt l (s .chips)) (pages-whole l s (sound .chips)) (memberChip l (stripeOf l i) (memberOf l i)) (r .current (memberOf l i))
               (page-chip-fits l w i)
               (sound-member l w r (sound .stripes .stripe (stripeOf l i) (stripe-fits l w i page)) (memberOf l i) (member-fits l w i) .current)

@@ -78,5 +78,5 @@ module _ (l : Layout) (u : Usable l) where
 
     -- a page whose number stays reads as before
     pub stored-read : (i : ℕ) → recordAt l (after .records) (stripeOf l i) .current (memberOf l i) ≡ recordAt l (t .records) (stripeOf l i) .current (memberOf l i)
-        → fetch l after noChip i .bytes ≡ fetch l t noChip i .bytes
+        → fetch l after noChip i ≡ fetch l t noChip i
     stored-read i e = same-read l (u .within) t after i (record { none-too = ap (isNone l) e; bytes = rw (e, stored-chips) })

@@ -3,13 +3,14 @@ use Prim.Native.Nat.{ℕ, _*_, _<_}
 use native.Mathlib.Decide.{ℕ-discrete}
 use mathlib.Core.Path.{_≡_, refl, sym, ap, _∙_}
 use mathlib.Core.Logic.{_≢_}
+use mathlib.Core.Bool.{cond}
 use mathlib.Core.List.{List}
 use lib.Dec.{eqb}
 use borrow.Author.Tests.{eq-eqb, ne-eqb}
 use Rattle.ranges.proofs.Looks.{by-test}
 use Rattle.ranges.proofs.Sums.{sum-cong}
 use Rattle.bytes.proofs.Xors.{xor-below-cong}
-use Rattle.layout.specs.Layout.{Layout, noChip, none}
+use Rattle.layout.specs.Layout.{Layout, noChip, none, isNone}
 use Rattle.layout.specs.Rotation.{parityChip, memberChip, memberOf, stripeOf}
 use Rattle.layout.specs.Page.{Page, pageAt}
 use Rattle.layout.specs.Record.{Record, bit, recordAt}
@@ -18,6 +19,7 @@ use Rattle.layout.proofs.Limits.{Within}
 use Rattle.layout.proofs.Rotations.{member-chip-other, other-member-chip, member-chip-fits, stripe-fits, member-fits}
 use Rattle.rules.specs.declared.Role.{Role}
 use Rattle.rules.specs.declared.Role.the-variants.{Current, Old, Parity}
+use Rattle.rules.specs.declared.Origin.the-variants.{Unwritten, Direct, Partial, Full}
 use Rattle.rules.specs.Fetch.{Fetched, itself, membersFeed, gathered, chipIn, numberIn, underParity, othersUnderParity, othersInside, throughPartial, throughParity, parityAnew, rebuilt, fetchRole, fetchIn}
 use Rattle.rules.specs.Read.{unwritten, fetchMember, fetch}
 use Rattle.rules.proofs.Soundness.Statements.{Sound}
@@ -127,18 +129,31 @@ module _ (l : Layout) where
   unfolding fetch fetchMember
   fetch-written s lost i d = rw (ne-eqb (recordAt l (s .records) (stripeOf l i) .current (memberOf l i)) (none l) d)
 
+  -- how a page is got
+  pub fetch-origin : (s : Images) (lost i : ℕ) → fetch l s lost i .origin
+      ≡ cond (isNone l (recordAt l (s .records) (stripeOf l i) .current (memberOf l i))) Unwritten
+      (cond (eqb (memberChip l (stripeOf l i) (memberOf l i)) lost) (cond (bit (recordAt l (s .records) (stripeOf l i)) (memberOf l i)) Partial Full) Direct)
+  unfolding fetch fetchMember fetchIn fetchRole itself throughPartial throughParity
+  fetch-origin s lost i =
+      let r = recordAt l (s .records) (stripeOf l i) in
+      by-test (isNone l (r .current (memberOf l i)))
+      (λ e. rw e)
+      (λ e.
+      by-test (eqb (memberChip l (stripeOf l i) (memberOf l i)) lost)
+      (λ t. by-test (bit r (memberOf l i)) (λ b. rw (e, t, b)) (λ b. rw (e, t, b)))
+      (λ t. rw (e, t)))
+
   module _ (w : Within l) where
-    -- the bytes of a page that was written, where no chip is lost
+    -- a page that was written, where no chip is lost
     pub fetch-direct : (s : Images) (i : ℕ) → recordAt l (s .records) (stripeOf l i) .current (memberOf l i) ≢ none l
-        → fetch l s noChip i .bytes
-        ≡ itself l (pageAt l (s .chips)) (memberChip l (stripeOf l i) (memberOf l i)) (recordAt l (s .records) (stripeOf l i) .current (memberOf l i)) .bytes
+        → fetch l s noChip i
+        ≡ itself l (pageAt l (s .chips)) (memberChip l (stripeOf l i) (memberOf l i)) (recordAt l (s .records) (stripeOf l i) .current (memberOf l i))
     unfolding fetchIn
     fetch-direct s i d =
         let j = stripeOf l i in
-        ap (λ (x : Fetched). x .bytes)
-        (fetch-written s noChip i d
+        fetch-written s noChip i d
         ∙ page-there l w (pageAt l (s .chips)) (slotAt l (s .slots)) j (recordAt l (s .records) j) (Current (memberOf l i))
-        (member-chip-fits l j (memberOf l i) (member-fits l w i)))
+        (member-chip-fits l j (memberOf l i) (member-fits l w i))
 
     module _ (s : Images) (sound : Sound l s) (contents : Data l s) where
       -- a page in any role is the same with any chip lost

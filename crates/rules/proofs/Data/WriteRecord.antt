@@ -31,7 +31,7 @@ use Rattle.rules.proofs.Soundness.Statements.{Usable, RecordSound, Soun
 use Rattle.rules.proofs.Stores.Names.{main-member, side-member, unnamed-at}
 use Rattle.rules.proofs.Stores.Kept.{Kept}
 use Rattle.rules.proofs.Stores.Storing.{sound-stripe}
-use Rattle.rules.proofs.Data.Contents.{StripeData, Data, bytes-page, pages-whole}
+use Rattle.rules.proofs.Data.Contents.{StripeData, Data, directly, page-itself, pages-whole}
 use Rattle.rules.proofs.Data.Parity.{written-current, written-current-other, write-data}
 use Rattle.rules.proofs.Data.Rebuild.{fetch-direct}
 use Rattle.rules.proofs.Data.Carries.{Wrote, kept-carries}
@@ -142,10 +142,10 @@ module _ (l : Layout) (u : Usable l) where
     new-current : recordAt l (writtenImages .records) j .current m ≡ p
     new-current = ap (λ (x : Record). x .current m) (stored-here l u t (k .sound) j fits r′ sound′ six) ∙ written-current l m p i r
 
-    write-here : fetch l writtenImages noChip page .bytes ≡ xs
+    write-here : fetch l writtenImages noChip page ≡ directly xs
     write-here =
         fetch-direct l (u .within) writtenImages page (rw new-current page-there)
-        ∙ rw (new-current, stored-chips l u t (k .sound) j fits r′ sound′ six) (bytes-page l (pageAt l (t .chips)) (memberChip l j m) p page-there ∙ new .bytes)
+        ∙ rw (new-current, stored-chips l u t (k .sound) j fits r′ sound′ six) (page-itself l (pageAt l (t .chips)) (memberChip l j m) p page-there ∙ ap directly (new .bytes))
 
     -- another page is of another stripe, or another member
     same-current : (q : ℕ) → q ≢ page

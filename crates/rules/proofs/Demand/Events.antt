@@ -8,7 +8,7 @@ use Rattle.layout.specs.Layout.{Layout, noChip, chipBytes}
 use Rattle.layout.specs.Images.{Images}
 use Rattle.layout.proofs.Limits.{within}
 use Rattle.rules.specs.Calls.{Call, lostChip}
-use Rattle.rules.specs.Demand.{World, called, calledAll, chipTaken, allName, ReadsTheBook, Finished, start, Demand3}
+use Rattle.rules.specs.Demand.{World, called, calledAll, chipTaken, allName, ReadsTheBook, originOwed, TellsTheOrigin, Finished, start, AfterBothLists, Demand3}
 use Rattle.rules.proofs.Soundness.Statements.{Usable}
 use Rattle.rules.proofs.Lists.Fresh.{format-fresh}
 use Rattle.rules.proofs.Demand.Invariant.{Inv, fresh-inv, reads-book}
@@ -59,13 +59,13 @@ module _ (l : Layout) where
 
   -- the images hold the book; with chip c taken, they hold it but for that chip
   abbrev pub Holds : State → World → Type 0
-  Holds alive x = Inv l (x .images) (x .book)
-  Holds (dead c) x = (c ≤ N) × (s : Images) × Inv l s (x .book) × Taken l c s (x .images)
+  Holds alive x = Inv l (x .images) (x .book) (x .written)
+  Holds (dead c) x = (c ≤ N) × (s : Images) × Inv l s (x .book) (x .written) × Taken l c s (x .images)
 
-  -- what a read is owed: it names the chip that is taken, or none
+  -- what a read owes, which names the chip that is taken, or none
   abbrev pub Owed : State → World → Type 0
-  Owed alive x = ReadsTheBook l noChip x
-  Owed (dead c) x = ReadsTheBook l c x
+  Owed alive x = TellsTheOrigin l noChip x
+  Owed (dead c) x = TellsTheOrigin l c x
 
   module _ (u : Usable l) where
     event-holds : (st : State) (e : Event) (x : World) → allowed st e → Holds st x → Holds (next st e) (happens e x)
@@ -74,8 +74,7 @@ module _ (l : Layout) where
     event-holds alive (takes c bytes) x ok f =
         (ok .0, x .images, f, take-chip l c (omega (arith, ok .0)) bytes (ok .1) x (f .sound .chips))
     event-holds (dead c) (calls call) x ok f =
-        let stays = call-stays l u c (f .0) call ok x in
-        (f .0, f .1, rw (stays .1) (f .2), rw (stays .0) (f .3))
+        rw (call-stays l u c (f .0) call ok x) f
     event-holds (dead c) (takes d bytes) x ok f = (
       f .0,
       f .1,
@@ -88,10 +87,10 @@ module _ (l : Layout) where
     history-holds st (e ∷ es) x ok f = history-holds (next st e) es (happens e x) (ok .1) (event-holds st e x (ok .0) f)
 
     holds-owed : (st : State) (x : World) → Holds st x → Owed st x
-    holds-owed alive x f = reads-book l u (x .images) (x .images) (x .book) f noChip refl (f .sound) (λ i. refl)
+    holds-owed alive x f = reads-book l u (x .images) x f noChip refl (f .sound) refl (λ i. refl)
     holds-owed (dead c) x f = taken-reads l u c (f .0) (f .1) x (f .2) (f .3)
 
-    -- after any events that are allowed, every read that is owed gives the book's page
+    -- after any events that are allowed, every read that is owed gives the book's page, and says how it was got
     pub history-reads : (es : List Event) (x : World) → allAllowed alive es → Holds alive x → Owed (ends alive es) (happensAll es x)
     history-reads es x ok f = holds-owed (ends alive es) (happensAll es x) (history-holds alive es x ok f)
 
@@ -109,6 +108,14 @@ second-ends c [] = refl
 second-ends c (call ∷ second) = second-ends c second
 
 module _ (l : Layout) where
+  -- what follows from what is owed
+  pub owed-too : (Owed Also : ℕ → World → Type 0) → (Finished l → (c : ℕ) (x : World) → Owed c x → Also c x) → AfterBothLists l Owed → AfterBothLists l Also
+  owed-too Owed Also more h = record {
+    oneChipTaken = λ f first c chip bytes whole second naming.
+        more f c (calledAll l second (chipTaken l c bytes (calledAll l first (start l f)))) (h .oneChipTaken f first c chip bytes whole second naming);
+    noChipTaken = λ f first. more f noChip (calledAll l first (start l f)) (h .noChipTaken f first);
+  }
+
   first-allowed : (first : List Call) (es : List Event) → allAllowed l alive es → allAllowed l alive (asEvents first ++ es)
   first-allowed [] es ok = ok
   first-allowed (call ∷ first) es ok = (tt, first-allowed first es ok)
@@ -156,5 +163,8 @@ module _ (l : Layout) where
     no-chip : (f : Finished l) (first : List Call) → Owed l alive (calledAll l first (start l f))
     no-chip f first = holds-owed l (usable f) alive (calledAll l first (start l f)) (first-holds f first)
 
+    pub origins-told : AfterBothLists l (TellsTheOrigin l)
+    origins-told = record { oneChipTaken = one-chip; noChipTaken = no-chip }
+
     pub demand-3 : Demand3 l
-    demand-3 = record { oneChipTaken = one-chip; noChipTaken = no-chip }
+    demand-3 = owed-too (TellsTheOrigin l) (ReadsTheBook l) (λ f c x h i inside. (originOwed l c x i, h i inside)) origins-told

@@ -11,6 +11,7 @@ use lib.Dec.{eqb}
 use borrow.Author.Tests.{le-leb, eqb-false}
 use Rattle.bytes.specs.Units.{unit, unitPut}
 use Rattle.bytes.proofs.Units.{unit-other, length-unitPut}
+use Rattle.ranges.specs.Look.{whenFound}
 use Rattle.ranges.proofs.Looks.{when-same}
 use Rattle.ranges.proofs.Tests.{or-right}
 use Rattle.layout.specs.Layout.{Layout, noChip, pages, pageBytes, chipBytes}
@@ -22,10 +23,9 @@ use Rattle.rules.specs.declared.Check.{Check}
 use Rattle.rules.specs.declared.Check.the-variants.{Passed, Failed}
 use Rattle.rules.specs.Refusals.{lostNamed, checked, imagesRows, writeRows, commitRows, collectRows, addRows}
 use Rattle.rules.specs.Open.{openSteps}
-use Rattle.rules.specs.Log.{logEnd}
 use Rattle.rules.specs.Calls.{run, outcome, openCall, writeCall, commitCall, collectCall, addCall, Call, open-call, write-call, commit-call, collect-call, add-call, query-call, lostChip, ended}
-use Rattle.rules.specs.Book.{completed, booked}
-use Rattle.rules.specs.Demand.{World, called, chipTaken, ReadsTheBook}
+use Rattle.rules.specs.Book.{completed, pageWritten, bytesWritten, booked, noted}
+use Rattle.rules.specs.Demand.{World, called, chipTaken, TellsTheOrigin}
 use Rattle.rules.proofs.Soundness.Statements.{Usable, SoundBut, sound-but}
 use Rattle.rules.proofs.Soundness.Accepted.{write-accepted, commit-accepted, collect-accepted, add-accepted, lost-refused}
 use Rattle.rules.proofs.Data.Rebuild.{fetch-elsewhere}
@@ -88,9 +88,9 @@ module _ (l : Layout) where
     not-none = omega (arith, u .within .members-high)
 
     -- the read of each page, with that chip named
-    pub taken-reads : (s : Images) (x : World) → Inv l s (x .book) → Taken c s (x .images) → ReadsTheBook l c x
+    pub taken-reads : (s : Images) (x : World) → Inv l s (x .book) (x .written) → Taken c s (x .images) → TellsTheOrigin l c x
     taken-reads s x f k =
-        reads-book l u s (x .images) (x .book) f c is-named (taken-sound c s (x .images) (sound-but l (u .within) s (isLost c) (f .sound)) k)
+        reads-book l u s x f c is-named (taken-sound c s (x .images) (sound-but l (u .within) s (isLost c) (f .sound)) k) (k .records)
         (λ i. fetch-elsewhere l s (x .images) c i (k .records) (k .slots) (k .others))
 
     -- a call that names it changes nothing
@@ -100,16 +100,16 @@ module _ (l : Layout) where
     open-stays t a (Failed r) = refl
 
     -- of every kind of call
-    pub call-stays : (call : Call) → lostChip call ≡ c → (x : World) → (called l call x .images ≡ x .images) × (called l call x .book ≡ x .book)
-    unfolding called ended completed booked openCall writeCall commitCall collectCall addCall
-    call-stays (open-call lost a) e x = (rw e (open-stays (x .images) a (checked (imagesRows l (x .images) c))), refl)
+    pub call-stays : (call : Call) → lostChip call ≡ c → (x : World) → called l call x ≡ x
+    unfolding called ended completed pageWritten bytesWritten booked noted whenFound openCall writeCall commitCall collectCall addCall
+    call-stays (open-call lost a) e x = rw (e, open-stays (x .images) a (checked (imagesRows l (x .images) c)))
     call-stays (write-call lost page xs a) e x =
-        let (r, refused) = lost-refused c (writeRows l (x .images) c page xs) not-none (λ h. write-accepted l (x .images) c page xs h .0) in rw (e, refused) (refl, refl)
+        let (r, refused) = lost-refused c (writeRows l (x .images) c page xs) not-none (λ h. write-accepted l (x .images) c page xs h .0) in rw (e, refused)
     call-stays (commit-call lost j a) e x =
-        let (r, refused) = lost-refused c (commitRows l (x .images) c j) not-none (λ h. commit-accepted l (x .images) c j h .0) in rw (e, refused) (refl, refl)
+        let (r, refused) = lost-refused c (commitRows l (x .images) c j) not-none (λ h. commit-accepted l (x .images) c j h .0) in rw (e, refused)
     call-stays (collect-call lost d a) e x =
-        let (r, refused) = lost-refused c (collectRows l (x .images) c d) not-none (λ h. collect-accepted l (x .images) c d h .0) in rw (e, refused) (refl, refl)
+        let (r, refused) = lost-refused c (collectRows l (x .images) c d) not-none (λ h. collect-accepted l (x .images) c d h .0) in rw (e, refused)
     call-stays (add-call lost ticket a) e x =
         let (r, refused) = lost-refused c (addRows l (x .images) c ticket) not-none (λ h. add-accepted l (x .images) c ticket h .0) in
-        rw (e, refused) (refl, when-same (logEnd l (x .book)) (x .book))
-    call-stays (query-call q) e x = (refl, refl)
+        rw (e, refused, when-same (pageWritten l (add-call c ticket a) (x .book)) (x .book), when-same (pageWritten l (add-call c ticket a) (x .book)) (x .written))
+    call-stays (query-call q) e x = refl

@@ -5,7 +5,7 @@ use native.Mathlib.Nat.{mul-pos}
 use native.Mathlib.Omega.{arith}
 use mathlib.Core.Path.{_≡_, refl, sym, ap, _∙_}
 use mathlib.Core.Logic.{_≢_}
-use mathlib.Core.Bool.{true, false}
+use mathlib.Core.Bool.{Bool, true, false}
 use mathlib.Core.List.{List, [], _∷_, _++_}
 use lib.ListN.{length, replicate, length-replicate}
 use Rattle.ranges.specs.declared.Found.the-variants.{At}
@@ -21,24 +21,27 @@ use Rattle.steps.specs.Steps.{Step, reading}
 use Rattle.rules.specs.declared.Check.{Check}
 use Rattle.rules.specs.declared.Check.the-variants.{Passed, Failed}
 use Rattle.rules.specs.declared.Refusal.the-variants.{Tickets}
-use Rattle.rules.specs.declared.Reading.the-variants.{Done as ReadDone}
+use Rattle.rules.specs.declared.Origin.{Origin}
+use Rattle.rules.specs.declared.Origin.the-variants.{Unwritten}
+use Rattle.rules.specs.declared.Reading.{Reading}
+use Rattle.rules.specs.declared.Reading.the-variants.{Done as ReadDone, Refused as ReadRefused}
 use Rattle.rules.specs.declared.Finding.the-variants.{Done as FindDone}
 use Rattle.rules.specs.Tickets.{ticketBytes, ticketOf, ticketSound}
-use Rattle.rules.specs.Log.{fallsIn, bytesAt, logEnd, logSound, standing, withTicket, contents, logReads, addSteps}
+use Rattle.rules.specs.Log.{fallsIn, bytesAt, logEnd, logSound, standing, logOrigin, withTicket, contents, origins, logReads, addSteps}
 use Rattle.rules.specs.Refusals.{checked, imagesRows, pageRows, logRow, readRows, findRows, addRows}
 use Rattle.rules.specs.Calls.{ReadOutcome, readCall, findCall, addCall, Call, open-call, write-call, commit-call, collect-call, add-call, query-call, Verdict, done, cut, refused, outcome, verdict, ended}
-use Rattle.rules.specs.Book.{Book, completed, booked}
-use Rattle.rules.specs.Demand.{World, called, calledAll, chipTaken, allName, ReadsTheBook, FindsTheBook, Finished, start, AfterBothLists}
+use Rattle.rules.specs.Book.{Book, completed, pageWritten, bytesWritten, booked, noted}
+use Rattle.rules.specs.Demand.{World, called, calledAll, chipTaken, allName, originOwed, TellsTheOrigin, FindsTheBook, Finished, start, AfterBothLists}
 use Rattle.rules.proofs.Soundness.Statements.{Usable}
 use Rattle.rules.proofs.Soundness.Table.{by-check, below-passed, both-passed}
 use Rattle.rules.proofs.Soundness.Accepted.{add-accepted}
-use Rattle.rules.proofs.Data.Log.{SamePages, end-fits, page-fits, end-same, sound-same, standing-same, with-bytes, contents-whole}
+use Rattle.rules.proofs.Data.Log.{SamePages, end-fits, page-fits, end-same, sound-same, standing-same, origin-same, with-bytes, contents-whole}
 use Rattle.rules.proofs.Data.NewTicket.{ClearBehind, Grown, grown}
 use Rattle.rules.proofs.Lists.CutRule.{verdictNumber}
 use Rattle.rules.proofs.Demand.Invariant.{Inv}
 use Rattle.rules.proofs.Demand.Alive.{call-inv}
 use Rattle.rules.proofs.Demand.Taken.{call-stays}
-use Rattle.rules.proofs.Demand.Events.{usable, start-holds, first-holds, demand-3}
+use Rattle.rules.proofs.Demand.Events.{usable, start-holds, first-holds, owed-too, origins-told}
 use Rattle.rules.proofs.Demand.OnlyAdditions.{isWrite, onlyAdds, Tidy, finished-tidy, tidy-behind, tidy-grown, refused-alone}
 
 module _ (l : Layout) where
@@ -74,12 +77,14 @@ module _ (l : Layout) where
       (record {
         images = calledAll l second (chipTaken l c bytes (afterAdd (reached f first) lost ticket a)) .images;
         book = reached f first .book;
+        written = reached f first .written;
       })
 
   -- every question that names that chip is answered from the book's log, and none is refused
   abbrev pub Answers : ℕ → World → Type 0
   Answers lost x =
-      (lot bag : ℕ) → (n : Counts) × (findCall l (x .images) lost lot bag ≡ FindDone n (standing l (x .book) lot bag))
+      (lot bag : ℕ) → (n : Counts)
+      × (findCall l (x .images) lost lot bag ≡ FindDone n (standing l (x .book) lot bag) (logOrigin l (x .book) (originOwed l lost x) lot bag))
 
   pub record TicketsKept : Type 0 where
     -- a question is answered from the book's log, with no chip dead or any one
@@ -104,30 +109,40 @@ module _ (l : Layout) where
     pub refused-alone : (f : Finished l) (first : List Call) → onlyAdds first → (lost : ℕ) (ticket : List ℕ)
         → checked (addRows l (reached f first .images) lost ticket) ≡ Failed Tickets → ticketSound (ticketOf ticket) ≡ false
 
-  -- a read that is done passed rows 1 to 5, and gave what the page reads as
-  read-done : (s : Images) (lost i : ℕ) (buffer : List ℕ) (n : Counts) (ys : List ℕ)
-      → _≡_ {A = ReadOutcome} (readCall l s lost i buffer) (record { answer = ReadDone n; buffer = ys })
-      → (checked (imagesRows l s lost) ≡ Passed) × (contents l s lost i ≡ ys)
+  -- how a read says that its page was got
+  abbrev originIn : Reading → Origin
+  originIn (ReadDone n o) = o
+  originIn (ReadRefused r) = Unwritten
+
+  -- a read that is done passed rows 1 to 5, gave what the page reads as, and said how it was got
+  read-done : (s : Images) (lost i : ℕ) (buffer : List ℕ) (n : Counts) (o : Origin) (ys : List ℕ)
+      → _≡_ {A = ReadOutcome} (readCall l s lost i buffer) (record { answer = ReadDone n o; buffer = ys })
+      → (checked (imagesRows l s lost) ≡ Passed) × (contents l s lost i ≡ ys) × (origins l s lost i ≡ o)
   unfolding readCall readRows
-  read-done s lost i buffer n ys e = by-check (checked (readRows l s lost i buffer))
+  read-done s lost i buffer n o ys e = by-check (checked (readRows l s lost i buffer))
       (λ passed. (
         both-passed (imagesRows l s lost) (pageRows l i (length buffer)) passed .0,
-        ap (λ (o : ReadOutcome). o .buffer) (rw passed at e),
+        ap (λ (x : ReadOutcome). x .buffer) (rw passed at e),
+        ap (λ (x : ReadOutcome). originIn (x .answer)) (rw passed at e),
       ))
-      (λ r failed. let h = rw failed at e in let z : _≡_ {A = ℕ} 0 1 = cc (ap (λ (o : ReadOutcome). o .answer) h) in absurd (omega arith))
+      (λ r failed. let h = rw failed at e in let z : _≡_ {A = ℕ} 0 1 = cc (ap (λ (x : ReadOutcome). x .answer) h) in absurd (omega arith))
 
   -- so where every page reads as the book has it, so does the log
-  module _ (w : Within l) (lost : ℕ) (x : World) (reads : ReadsTheBook l lost x) where
-    page-read : (i : ℕ) → i < N * S → (checked (imagesRows l (x .images) lost) ≡ Passed) × (contents l (x .images) lost i ≡ x .book i)
+  module _ (w : Within l) (lost : ℕ) (x : World) (reads : TellsTheOrigin l lost x) where
+    page-read : (i : ℕ) → i < N * S
+        → (checked (imagesRows l (x .images) lost) ≡ Passed) × (contents l (x .images) lost i ≡ x .book i) × (origins l (x .images) lost i ≡ originOwed l lost x i)
     page-read i h =
         let (n, e) = reads i h (replicate W 0) (length-replicate W 0) in
-        read-done (x .images) lost i (replicate W 0) n (x .book i) e
+        read-done (x .images) lost i (replicate W 0) n (originOwed l lost x i) (x .book i) e
 
     rows-read : checked (imagesRows l (x .images) lost) ≡ Passed
     rows-read = page-read 0 (mul-pos (omega (arith, w .members-low)) (w .stripes-low)) .0
 
     same-pages : SamePages l (contents l (x .images) lost) (x .book)
     same-pages i h = page-read i h .1
+
+    same-origins : (i : ℕ) → i < N * S → origins l (x .images) lost i ≡ originOwed l lost x i
+    same-origins i h = page-read i h .2
 
     pub finds-book : FindsTheBook l lost x
     unfolding findCall findRows
@@ -138,17 +153,14 @@ module _ (l : Layout) where
         sound-same l w (contents l (x .images) lost) (x .book) same-pages,
       )
           (by-test (logSound l (x .book))
-          (λ t. rw (t, standing-same l w (contents l (x .images) lost) (x .book) same-pages lot bag))
+          (λ t.
+          rw (
+            t,
+            standing-same l w (contents l (x .images) lost) (x .book) same-pages lot bag,
+            origin-same l w (contents l (x .images) lost) (x .book) same-pages (origins l (x .images) lost) (originOwed l lost x) same-origins lot bag,
+          ))
           (λ t. rw t)),
     )
-
-  -- what follows from what is owed
-  owed-too : (Owed Also : ℕ → World → Type 0) → (Finished l → (c : ℕ) (x : World) → Owed c x → Also c x) → AfterBothLists l Owed → AfterBothLists l Also
-  owed-too Owed Also more h = record {
-    oneChipTaken = λ f first c chip bytes whole second naming.
-        more f c (calledAll l second (chipTaken l c bytes (calledAll l first (start l f)))) (h .oneChipTaken f first c chip bytes whole second naming);
-    noChipTaken = λ f first. more f noChip (calledAll l first (start l f)) (h .noChipTaken f first);
-  }
 
   -- an addition answered done passed its rows
   done-passed : (check : Check) (n : Counts) (a : ℕ) (steps : Images → List Step) (s : Images) → verdict (outcome l check n a steps s .answer) ≡ done → check ≡ Passed
@@ -169,9 +181,9 @@ module _ (l : Layout) where
         grows = λ clear. grown l ticket t book after end put right clear sound;
       }
 
-  add-done : Within l → (lost : ℕ) (ticket : List ℕ) (a : ℕ) (x : World) → Inv l (x .images) (x .book)
+  add-done : Within l → (lost : ℕ) (ticket : List ℕ) (a : ℕ) (x : World) → Inv l (x .images) (x .book) (x .written)
       → addVerdict x lost ticket a ≡ done → Added ticket (x .book) (afterAdd x lost ticket a .book)
-  unfolding called ended addCall booked completed whenFound
+  unfolding called ended addCall pageWritten bytesWritten booked completed whenFound
   add-done w lost ticket a x f e =
       let s = x .images in
       let passed = done-passed (checked (addRows l s lost ticket)) (reading (logReads l s lost)) a (addSteps l lost ticket) s e in
@@ -183,16 +195,17 @@ module _ (l : Layout) where
       let whole = ap length (sym (f .reads (fallsIn l t) page)) ∙ contents-whole l w s (f .sound) (fallsIn l t) page in
       rw (e, end) (added w (x .book) ticket t end whole (o .whole) (o .sound) sound)
 
-  -- an addition that is cut or refused
-  add-not-done : (lost : ℕ) (ticket : List ℕ) (a : ℕ) (v : Verdict) → v ≢ done → (book : Book) → booked l (add-call lost ticket a) v book ≡ book
-  unfolding booked completed
-  add-not-done lost ticket a done d book = absurd (d refl)
-  add-not-done lost ticket a cut d book = when-same (logEnd l book) book
-  add-not-done lost ticket a refused d book = when-same (logEnd l book) book
+  -- a call that is cut or refused
+  not-done : (call : Call) (v : Verdict) → v ≢ done → (book : Book) (written : ℕ → Bool) → (booked l call v book ≡ book) × (noted l call v book written ≡ written)
+  unfolding booked noted completed
+  not-done call done d book written = absurd (d refl)
+  not-done call cut d book written = (when-same (pageWritten l call book) book, when-same (pageWritten l call book) written)
+  not-done call refused d book written = (when-same (pageWritten l call book) book, when-same (pageWritten l call book) written)
 
-  add-keeps : (x : World) (lost : ℕ) (ticket : List ℕ) (a : ℕ) → addVerdict x lost ticket a ≢ done → afterAdd x lost ticket a .book ≡ x .book
+  add-keeps : (x : World) (lost : ℕ) (ticket : List ℕ) (a : ℕ) → addVerdict x lost ticket a ≢ done
+      → (afterAdd x lost ticket a .book ≡ x .book) × (afterAdd x lost ticket a .written ≡ x .written)
   unfolding called
-  add-keeps x lost ticket a d = add-not-done lost ticket a (addVerdict x lost ticket a) d (x .book)
+  add-keeps x lost ticket a d = not-done (add-call lost ticket a) (addVerdict x lost ticket a) d (x .book) (x .written)
 
   -- ---- where additions alone write pages
 
@@ -205,18 +218,19 @@ module _ (l : Layout) where
   added-tidy ticket before after tidy h =
       tidy-grown l before tidy (h .place) (h .end) ticket after (h .tickets) (h .grows (tidy-behind l before tidy (h .place) (h .end)))
 
-  call-tidy : Within l → (call : Call) → isWrite call ≡ false → (x : World) → Inv l (x .images) (x .book) → Tidy l (x .book) → Tidy l (called l call x .book)
-  unfolding called booked
+  call-tidy : Within l → (call : Call) → isWrite call ≡ false → (x : World) → Inv l (x .images) (x .book) (x .written) → Tidy l (x .book)
+      → Tidy l (called l call x .book)
+  unfolding called pageWritten booked whenFound
   call-tidy w (open-call lost a) ok x f tidy = tidy
   call-tidy w (write-call lost page xs a) ok x f tidy = both true refl ok
   call-tidy w (commit-call lost j a) ok x f tidy = tidy
   call-tidy w (collect-call lost c a) ok x f tidy = tidy
   call-tidy w (add-call lost ticket a) ok x f tidy = by-done (addVerdict x lost ticket a)
       (λ e. added-tidy ticket (x .book) (afterAdd x lost ticket a .book) tidy (add-done w lost ticket a x f e))
-      (λ d. rw (add-keeps x lost ticket a d) tidy)
+      (λ d. rw (add-keeps x lost ticket a d .0) tidy)
   call-tidy w (query-call q) ok x f tidy = tidy
 
-  calls-tidy : Usable l → (first : List Call) → onlyAdds first → (x : World) → Inv l (x .images) (x .book) → Tidy l (x .book) → Tidy l (calledAll l first x .book)
+  calls-tidy : Usable l → (first : List Call) → onlyAdds first → (x : World) → Inv l (x .images) (x .book) (x .written) → Tidy l (x .book) → Tidy l (calledAll l first x .book)
   unfolding calledAll
   calls-tidy u [] only x f tidy = tidy
   calls-tidy u (call ∷ first) only x f tidy =
@@ -226,29 +240,32 @@ module _ (l : Layout) where
   answers : (c : ℕ) (x : World) → FindsTheBook l c x → logSound l (x .book) ≡ true → Answers c x
   answers c x finds sound lot bag = rw sound at (finds lot bag)
 
-  -- one call more; and calls that name the chip that is taken, which leave the book
+  -- one call more; and calls that name the chip that is taken, which change nothing
   one-more : (first : List Call) (call : Call) (x : World) → calledAll l (first ++ (call ∷ [])) x ≡ called l call (calledAll l first x)
   unfolding calledAll
   one-more [] call x = refl
   one-more (c ∷ first) call x = one-more first call (called l c x)
 
-  second-keeps : Usable l → (c : ℕ) → c ≤ N → (second : List Call) → allName c second → (x : World) → calledAll l second x .book ≡ x .book
+  second-keeps : Usable l → (c : ℕ) → c ≤ N → (second : List Call) → allName c second → (x : World) → calledAll l second x ≡ x
   unfolding calledAll
   second-keeps u c chip [] naming x = refl
   second-keeps u c chip (call ∷ second) naming x =
-      second-keeps u c chip second (naming .1) (called l call x) ∙ call-stays l u c chip call (naming .0) x .1
+      second-keeps u c chip second (naming .1) (called l call x) ∙ call-stays l u c chip call (naming .0) x
 
   module _ (some : 1 ≤ l .D) (narrow : l .D ≤ 4) where
     found : AfterBothLists l (FindsTheBook l)
-    found = owed-too (ReadsTheBook l) (FindsTheBook l) (λ f. finds-book (usable l some narrow f .within)) (demand-3 l some narrow)
+    found = owed-too l (TellsTheOrigin l) (FindsTheBook l) (λ f. finds-book (usable l some narrow f .within)) (origins-told l some narrow)
 
     left : LeavesTheLog
     unfolding chipTaken
     left f first lost ticket a d c chip bytes whole second naming lot bag =
         let y = chipTaken l c bytes (afterAdd (reached f first) lost ticket a) in
+        let still = second-keeps (usable l some narrow f) c chip second naming y in
+        let kept = add-keeps (reached f first) lost ticket a d in
         rw (
           one-more first (add-call lost ticket a) (start l f),
-          second-keeps (usable l some narrow f) c chip second naming y ∙ add-keeps (reached f first) lost ticket a d,
+          ap (λ (x : World). x .book) still ∙ kept .0,
+          ap (λ (x : World). x .written) still ∙ kept .1,
         ) at
         (found .oneChipTaken f (first ++ (add-call lost ticket a ∷ [])) c chip bytes whole second naming lot bag)
 
@@ -268,7 +285,7 @@ module _ (l : Layout) where
     tickets-kept = record {
       finds = found;
       adds = λ f first lost ticket a. add-done (usable l some narrow f .within) lost ticket a (reached f first) (first-holds l some narrow f first);
-      keeps = add-keeps;
+      keeps = λ x lost ticket a d. add-keeps x lost ticket a d .0;
       leaves = left;
       tidy = kept-tidy;
       answered = λ f first only. answers noChip (reached f first) (found .noChipTaken f first) (kept-tidy f first only .sound);

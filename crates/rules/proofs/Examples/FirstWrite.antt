@@ -24,6 +24,7 @@ use Rattle.steps.proofs.View.{erased-clean}
 use Rattle.rules.specs.Blocks.{cleanIn, cleanBlock}
 use Rattle.rules.specs.Place.{openBlock, placeOf}
 use Rattle.rules.specs.Room.{roomSteps, atPlace, placed}
+use Rattle.rules.specs.declared.Origin.the-variants.{Unwritten}
 use Rattle.rules.specs.declared.Reading.the-variants.{Done as ReadDone}
 use Rattle.rules.specs.Partial.{newPartial, lowestFreeSlot, freeSlot, dataPage, written, slotSteps, writeAt}
 use Rattle.rules.specs.Write.{commitOwed, owedSteps, writeMember, writeSteps}
@@ -45,7 +46,7 @@ module _ (l : Layout) where
     pub three : length (writeSteps l i xs s) ≡ 3
     pub cut-at-two : writeCall l s noChip i xs 2 .answer ≡ Cut (record { reads = 0; programs = 1; erases = 0; stores = 2 })
     pub reads-zeros : (buffer : List ℕ) → length buffer ≡ W
-        → _≡_ {A = ReadOutcome} (readCall l (writeCall l s noChip i xs 2 .images) noChip i buffer) (record { answer = ReadDone noCounts; buffer = replicate W 0 })
+        → _≡_ {A = ReadOutcome} (readCall l (writeCall l s noChip i xs 2 .images) noChip i buffer) (record { answer = ReadDone noCounts Unwritten; buffer = replicate W 0 })
     pub done-at-three : writeCall l s noChip i xs 3 .answer ≡ Done (record { reads = 0; programs = 1; erases = 0; stores = 3 })
 
 -- on images as a format leaves them
@@ -114,7 +115,7 @@ module _ (l : Layout) (u : Usable l) (s : Images) (f : Fresh l s) where
 
     -- a read of it, while the records are as they were: zeros, and no page is read for them
     zeros : (t : Images) → Sound l t → t .records ≡ s .records → (buffer : List ℕ) → length buffer ≡ W
-        → _≡_ {A = ReadOutcome} (readCall l t noChip i buffer) (record { answer = ReadDone noCounts; buffer = replicate W 0 })
+        → _≡_ {A = ReadOutcome} (readCall l t noChip i buffer) (record { answer = ReadDone noCounts Unwritten; buffer = replicate W 0 })
     unfolding readCall fetch fetchMember emptyRecord
     zeros t sound same buffer whole =
         rw (

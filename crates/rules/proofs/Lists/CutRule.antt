@@ -26,7 +26,7 @@ use Rattle.rules.specs.Collect.{collectSteps}
 use Rattle.rules.specs.Commit.{commitSteps}
 use Rattle.rules.specs.Write.{writeSteps}
 use Rattle.rules.specs.Format.{formatSteps}
-use Rattle.rules.specs.Log.{standing, contents, logReads, addSteps}
+use Rattle.rules.specs.Log.{standing, logOrigin, contents, origins, logReads, addSteps}
 use Rattle.rules.specs.Calls.{Verdict, done, cut, refused, Outcome, run, outcome, readInto, formatCall, openCall, readCall, writeCall, commitCall, collectCall, addCall, findCall}
 
 -- what tells verdicts and answers apart
@@ -93,7 +93,8 @@ module _ (l : Layout) where
         → readCall l s lost page buffer ≡ readInto (fetch l s lost page)
     pub find-refusing : (s : Images) (lost lot bag : ℕ) (r : Refusal) → checked (findRows l s lost) ≡ Failed r → findCall l s lost lot bag ≡ FindRefused r
     pub finding : (s : Images) (lost lot bag : ℕ) → checked (findRows l s lost) ≡ Passed
-        → findCall l s lost lot bag ≡ FindDone (pagesRead (logReads l s lost)) (standing l (contents l s lost) lot bag)
+        → findCall l s lost lot bag
+        ≡ FindDone (pagesRead (logReads l s lost)) (standing l (contents l s lost) lot bag) (logOrigin l (contents l s lost) (origins l s lost) lot bag)
 
   pub cut-rules : CutRules
   unfolding formatCall openCall writeCall commitCall collectCall addCall readCall findCall
