@@ -4,6 +4,7 @@ use mathlib.Core.Path.{_≡_}
 use mathlib.Core.Bool.{Bool, true, false, not, cond, _&&_}
 use mathlib.Core.List.{List}
 use lib.ListN.{length}
+use lib.Dec.{eqb}
 use Rattle.ranges.specs.declared.Found.{Found}
 use Rattle.ranges.specs.declared.Found.the-variants.{At, Nothing}
 use Rattle.ranges.specs.Look.{allBelow, lastBelow}
@@ -12,7 +13,7 @@ use Rattle.layout.specs.Layout.{Layout}
 use Rattle.layout.specs.Rotation.{memberOf, stripeOf, parityChip}
 use Rattle.layout.specs.Images.{Images}
 use Rattle.rules.specs.declared.Origin.{Origin}
-use Rattle.rules.specs.declared.Origin.the-variants.{Unwritten}
+use Rattle.rules.specs.declared.Origin.the-variants.{Unwritten, Direct, Partial, Full}
 use Rattle.rules.specs.declared.Ticket.{Ticket}
 use Rattle.rules.specs.declared.Standing.{Standing}
 use Rattle.rules.specs.declared.Standing.the-variants.{Weighed, Nothing as NoWeight}
@@ -72,9 +73,17 @@ pub record Held : Type 0 where
 abbrev pub heldBy : Ticket → Origin → Held
 heldBy t o = record { standing = weightOf t; origin = o }
 
+-- the origin of a number
+abbrev pub originNumbered : ℕ → Origin
+originNumbered n = cond (eqb n 0) Unwritten (cond (eqb n 1) Direct (cond (eqb n 2) Partial Full))
+
 -- as the code has it: "if it is a weight, else none"
 abbrev pub heldFrom : Latest → Held
-heldFrom x = record { standing = cond (x .weight) (Weighed (record { gross = x .gross; tare = x .tare })) NoWeight; origin = x .origin }
+heldFrom x =
+    record {
+      standing = cond (eqb (x .kind) 1) (Weighed (record { gross = x .gross; tare = x .tare })) NoWeight;
+      origin = originNumbered (x .origin);
+    }
 
 -- before the first ticket
 abbrev pub nothingHeld : Held

@@ -33,7 +33,7 @@ ghost use Rattle.rules.specs.Origins.{later as laterOf};
 ghost use Rattle.fetch.specs.Into.{isDirect};
 ghost use Rattle.rules.specs.Tickets.{ticketBytes, ticketOf, ticketSound, isFor};
 ghost use Rattle.codec.specs.Fit.{ChipsFit, RecordsFit, SlotsFit};
-ghost use Rattle.log.specs.Walks.{broken as brokenWalk, whole as wholeWalk, ticketsIn, heldFrom, heldBy, positionOf, isPlain, PageShows, PageLooked, Walked};
+ghost use Rattle.log.specs.Walks.{broken as brokenWalk, whole as wholeWalk, ticketsIn, originNumbered, heldFrom, heldBy, positionOf, isPlain, PageShows, PageLooked, Walked};
 
 // The bytes of a ticket.
 pub const TICKET: usize = 16;
@@ -178,14 +178,14 @@ fn look_at(page: &[u8], lot: u32, bag: u16) -> Shown
     }
 }
 
-// The latest ticket so far for the lot and bag, told by numbers alone.
+// The latest ticket so far for the lot and bag, told by numbers of one width alone: between others the compiler moves the empty bytes too.
 struct Latest {
-    // it is a weight
-    weight: bool,
+    // 0 where there is none
+    kind: u32,
     gross: u32,
     tare: u32,
-    // how its page was got
-    origin: Origin,
+    // the number of how its page was got
+    origin: u32,
 }
 
 // What stands after the tickets of a page that was got so.
@@ -196,10 +196,10 @@ fn latest_of(page: &[u8], shown: Shown, origin: Origin, before: Latest) -> Lates
     if shown.found {
         let t = ticket_in(page, shown.latest);
         return Latest {
-            weight: t.kind == 1,
+            kind: t.kind as u32,
             gross: t.gross,
             tare: t.tare,
-            origin,
+            origin: origin_number(origin) as u32,
         };
     }
     before
@@ -219,7 +219,7 @@ fn later(a: Origin, b: Origin) -> Origin
 fn standing_of(x: Latest) -> Standing
     ensures { λ r. ⌜ r ≡ heldFrom x .standing ⌝ }
 {
-    if x.weight {
+    if x.kind == 1 {
         return Standing::Weighed(Weight {
             gross: x.gross,
             tare: x.tare,
@@ -228,13 +228,28 @@ fn standing_of(x: Latest) -> Standing
     Standing::Nothing
 }
 
+// The origin of a number.
+fn origin_numbered(n: u32) -> Origin
+    ensures { λ r. ⌜ r ≡ originNumbered n ⌝ }
+{
+    if n == 0 {
+        return Origin::Unwritten;
+    }
+    if n == 1 {
+        return Origin::Direct;
+    }
+    if n == 2 {
+        return Origin::Partial;
+    }
+    Origin::Full
+}
+
 // How it was got: a ticket that is given carries the origin of its page.
 fn origin_of(x: Latest, last: Origin) -> Origin
     ensures { λ r. ⌜ r ≡ carried (heldFrom x .standing) (heldFrom x .origin) last ⌝ }
 {
-    let origin = x.origin;
-    if x.weight {
-        return origin;
+    if x.kind == 1 {
+        return origin_numbered(x.origin);
     }
     last
 }
@@ -419,10 +434,10 @@ pub fn walk_log(
     let per_page = work.len() / TICKET;
     let pages = g.n as usize * g.s as usize;
     let mut latest = Latest {
-        weight: false,
+        kind: 0,
         gross: 0,
         tare: 0,
-        origin: Origin::Unwritten,
+        origin: 0,
     };
     let mut reads = 0;
     let mut last = Origin::Unwritten;

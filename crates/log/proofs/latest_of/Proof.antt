@@ -1,15 +1,35 @@
 -- The latest ticket of the page, or the one before it.
-use mathlib.Core.Path.{ap}
+use Prim.Native.Nat.{_≤_}
+use native.Mathlib.Omega.{arith}
+use mathlib.Core.Path.{_≡_, refl, ap}
+use lib.Dec.{lit≤}
+use borrow.Author.Needs.{needs}
+use Rattle.rules.specs.declared.Origin.{Origin}
+use Rattle.rules.specs.declared.Origin.the-variants.{Unwritten, Direct, Partial, Full}
 use Rattle.rules.specs.declared.Ticket.{Ticket}
-use Rattle.log.specs.Walks.{heldBy}
+use Rattle.rules.specs.Origins.{originNumber}
+use Rattle.log.specs.Walks.{heldBy, originNumbered}
 use Rattle.log.proofs.latest_of.Statement.{statement}
 use Rattle.log.proofs.latest_of.Tie as tie
 
+-- the number of an origin is small, and tells it
+numbered : (o : Origin) → (originNumber o ≤ 3) × (originNumbered (originNumber o) ≡ o)
+numbered Unwritten = (lit≤ tt, refl)
+numbered Direct = (lit≤ tt, refl)
+numbered Partial = (lit≤ tt, refl)
+numbered Full = (lit≤ tt, refl)
+
+small : tie.Need-cast-t9
+small c = search (needs, numbered (c .before .before .before .before .before .args .origin) .0)
+
 returns : tie.Need-returns
-returns c = rw (c .before .before .if1 .taken) (ap (λ (t : Ticket). heldBy t (c .before .before .before .before .args .origin)) (c .before .ticket-in .ensures))
+returns c =
+    let a = c .before .before .before .before .before .args in
+    rw (c .before .before .before .if1 .taken, c .origin-number .ensures, numbered (a .origin) .1)
+    (ap (λ (t : Ticket). heldBy t (a .origin)) (c .before .before .ticket-in .ensures))
 
 returns-2 : tie.Need-returns-2
 returns-2 c = rw (c .if1 .left)
 
 pub latest-of-spec : {M : Type 1} → statement M
-latest-of-spec = tie.close (tie.spec (λ c κs. c .before .before .pre (c .if1 .taken)) returns returns-2)
+latest-of-spec = tie.close (tie.spec (λ c κs. c .before .before .pre (c .if1 .taken)) (λ c. search needs) (λ c κs. search needs) small returns returns-2)
