@@ -68,7 +68,8 @@ struct vazhettu_geometry {
 /*
  * What a call answers; a read and a find answer these numbers first, and more behind them. A call that is refused has
  * counts of zero and has changed nothing, its buffer or data included. A call that is cut has the counts of the stores
- * that it made, and an add those of the log besides.
+ * that it made, and an add those of the log besides. The answers of read and find are longer than in the release
+ * before: what calls them must be compiled again with this header.
  */
 struct vazhettu_report {
     uint64_t status;   /* VAZHETTU_DONE, VAZHETTU_CUT, or the refusal */
@@ -162,17 +163,25 @@ struct vazhettu_report vazhettu_open(struct vazhettu_geometry g, uint8_t *chips,
 
 /*
  * The origin of a page: how it was got. A settlement desk prints it beside a weight, to say whether that came off a
- * chip or was rebuilt. A read and a find carry one, an add does not.
+ * chip or was rebuilt. A read and a find that are done carry one, an add does not. A refused report has 0 there, which
+ * is no origin: look at the status first.
+ *
+ * A page was never written where no write of it, and no add into it, was done since the last format. One that was cut
+ * or refused does not count; a page written with zeros is written.
+ *
+ * A page that reads as before keeps its bytes; a commit may turn the origin that it has with its chip named from
+ * VAZHETTU_ORIGIN_PARTIAL to VAZHETTU_ORIGIN_FULL, also a commit that a write or an add makes first, even if that write
+ * or add is then cut.
  */
 enum {
     /* The page was never written, and is zeros; also where its chip is lost. */
-    VAZHETTU_UNWRITTEN = 0,
+    VAZHETTU_ORIGIN_UNWRITTEN = 0,
     /* The page was read off its own chip. */
-    VAZHETTU_DIRECT = 1,
+    VAZHETTU_ORIGIN_DIRECT = 1,
     /* Its chip is lost, and it was rebuilt through the partial parity of its stripe, which is in a slot. */
-    VAZHETTU_PARTIAL = 2,
+    VAZHETTU_ORIGIN_PARTIAL = 2,
     /* Its chip is lost, and it was rebuilt through the full parity of its stripe, which is on another chip. */
-    VAZHETTU_FULL = 3
+    VAZHETTU_ORIGIN_FULL = 3
 };
 
 /*
@@ -185,7 +194,7 @@ struct vazhettu_read_report {
     uint64_t programs;
     uint64_t erases;
     uint64_t stores;
-    uint64_t origin; /* VAZHETTU_UNWRITTEN to VAZHETTU_FULL; 0 where the read is refused */
+    uint64_t origin; /* VAZHETTU_ORIGIN_UNWRITTEN to VAZHETTU_ORIGIN_FULL; no origin where the read is refused */
 };
 
 /*
@@ -285,7 +294,7 @@ struct vazhettu_find_report {
     uint64_t standing; /* 1 where a weight stands; else 0, and so are gross and tare */
     uint64_t gross;    /* in grams */
     uint64_t tare;     /* in grams */
-    uint64_t origin;   /* VAZHETTU_UNWRITTEN to VAZHETTU_FULL; 0 where the find is refused */
+    uint64_t origin;   /* VAZHETTU_ORIGIN_UNWRITTEN to VAZHETTU_ORIGIN_FULL; no origin where the find is refused */
 };
 
 /*
@@ -296,7 +305,7 @@ struct vazhettu_find_report {
  *
  * Where a weight stands, the origin is that of the page with its ticket, whatever those of other pages are. Where
  * nothing stands, it is the greatest of the pages up to and including the one with the log's end, of all pages where
- * the log is full: if it is below VAZHETTU_PARTIAL, nothing was rebuilt to know this.
+ * the log is full: if it is below VAZHETTU_ORIGIN_PARTIAL, nothing was rebuilt to know this.
  */
 struct vazhettu_find_report vazhettu_find(struct vazhettu_geometry g, const uint8_t *chips, size_t chips_len,
                                           const uint8_t *records, size_t records_len, const uint8_t *slots, size_t slots_len,
@@ -319,8 +328,8 @@ struct vazhettu_find_report vazhettu_find(struct vazhettu_geometry g, const uint
  *     vazhettu_find(STORE, 0, 7, 2);                                      standing 1, gross 59870, tare 140
  *     vazhettu_find(STORE, 0, 7, 3);                                      standing 0: not in the log
  *
- * With n = 4 and w = 16 bag 2 is in page 1, on chip 1, and the origin is VAZHETTU_DIRECT. That of the other two finds
- * is VAZHETTU_PARTIAL: page 0 was rebuilt to know that nothing stands.
+ * With n = 4 and w = 16 bag 2 is in page 1, on chip 1, and the origin is VAZHETTU_ORIGIN_DIRECT. That of the other two
+ * finds is VAZHETTU_ORIGIN_PARTIAL: page 0 was rebuilt to know that nothing stands.
  */
 
 #ifdef __cplusplus

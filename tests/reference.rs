@@ -647,6 +647,28 @@ impl<'a> View<'a> {
         reads
     }
 
+    /// Gets a member's page: where it lies, if it is read directly, else it is in the work page; its
+    /// reads, and how it was got.
+    fn get(
+        self,
+        stripe: usize,
+        record: &Record,
+        member: usize,
+        lost: Option<usize>,
+        work: &mut [u8],
+    ) -> (Option<&'a [u8]>, u64, Origin) {
+        let chip = self.shape.member_chip(stripe, member);
+        let origin = record.origin(member, lost == Some(chip));
+        match origin {
+            Origin::Unwritten => {
+                work.fill(0);
+                (None, 0, origin)
+            }
+            Origin::Direct => (Some(self.data(chip, record.current[member] as usize)), 1, origin),
+            Origin::Partial | Origin::Full => (None, self.rebuild(stripe, record, member, work), origin),
+        }
+    }
+
     /// A member's page as it reads, its reads, and how it was got. It is where it lies, or in the work
     /// page if it is zeros or gathered.
     pub fn fetch<'b>(
@@ -660,19 +682,8 @@ impl<'a> View<'a> {
     where
         'a: 'b,
     {
-        let chip = self.shape.member_chip(stripe, member);
-        let origin = record.origin(member, lost == Some(chip));
-        match origin {
-            Origin::Unwritten => {
-                work.fill(0);
-                (work, 0, origin)
-            }
-            Origin::Direct => (self.data(chip, record.current[member] as usize), 1, origin),
-            Origin::Partial | Origin::Full => {
-                let reads = self.rebuild(stripe, record, member, work);
-                (work, reads, origin)
-            }
-        }
+        let (page, reads, origin) = self.get(stripe, record, member, lost, work);
+        (page.unwrap_or(work), reads, origin)
     }
 
     /// "Tickets fill the pages in order, and the log ends at the first of kind 0." `each` is shown the
@@ -1254,20 +1265,10 @@ pub fn read(geometry: Geometry, images: &Images, lost: u64, page: u64, buffer: &
         Ok(checked) => checked,
     };
     let (stripe, member) = (page as usize / view.shape.n, page as usize % view.shape.n);
-    let chip = view.shape.member_chip(stripe, member);
-    let record = view.record(stripe);
-    let origin = record.origin(member, lost == Some(chip));
-    let reads = match origin {
-        Origin::Unwritten => {
-            buffer.fill(0);
-            0
-        }
-        Origin::Direct => {
-            buffer.copy_from_slice(view.data(chip, record.current[member] as usize));
-            1
-        }
-        Origin::Partial | Origin::Full => view.rebuild(stripe, &record, member, buffer),
-    };
+    let (lying, reads, origin) = view.get(stripe, &view.record(stripe), member, lost, buffer);
+    if let Some(data) = lying {
+        buffer.copy_from_slice(data);
+    }
     Reading { status: Status { status: DONE, reads, ..Status::default() }, origin: Some(origin) }
 }
 

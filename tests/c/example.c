@@ -31,10 +31,10 @@ static uint64_t lost = VAZHETTU_NO_CHIP;
 
 /* How a page was got: what is printed beside a weight. */
 static const char *const origins[] = {
-    [VAZHETTU_UNWRITTEN] = "never written",
-    [VAZHETTU_DIRECT] = "off its chip",
-    [VAZHETTU_PARTIAL] = "rebuilt through the partial parity",
-    [VAZHETTU_FULL] = "rebuilt through the full parity",
+    [VAZHETTU_ORIGIN_UNWRITTEN] = "never written",
+    [VAZHETTU_ORIGIN_DIRECT] = "off its chip",
+    [VAZHETTU_ORIGIN_PARTIAL] = "rebuilt through the partial parity",
+    [VAZHETTU_ORIGIN_FULL] = "rebuilt through the full parity",
 };
 
 static void say(const char *what, struct vazhettu_report r) {

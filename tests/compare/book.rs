@@ -4,6 +4,7 @@ use crate::calls::{Call, Comparison};
 use crate::generator::ALL;
 use crate::images::{fill_chip, FILLINGS};
 use crate::library::Answer;
+use crate::origins::{hit_origin, of_booked, Asked};
 use crate::random::Random;
 use crate::reference::*;
 use crate::tickets::{broken, Log};
@@ -20,6 +21,8 @@ pub struct Store {
     pub images: Images,
     /// For each logical page what the writes and additions that were done have put there.
     pub book: Vec<Vec<u8>>,
+    /// For each logical page whether one of them was done since the format.
+    written: Vec<bool>,
 }
 
 impl Store {
@@ -27,8 +30,8 @@ impl Store {
     pub fn new(to: &mut Comparison, random: &mut Random, g: Geometry) -> Store {
         let shape = g.shape().expect("within the limits");
         let [chips, records, slots] = shape.lengths().map(|length| random.bytes(length));
-        let book = vec![vec![0; shape.w]; shape.n * shape.s];
-        let mut store = Store { g, shape, images: Images { chips, records, slots }, book };
+        let (book, written) = (vec![vec![0; shape.w]; shape.n * shape.s], vec![false; shape.n * shape.s]);
+        let mut store = Store { g, shape, images: Images { chips, records, slots }, book, written };
         if store.is_small() && random.one_in(8) {
             to.every_allowance(random, g, &store.images, &Call::Format { allowance: ALL }, |_, _, _, _| {});
         }
@@ -43,6 +46,7 @@ impl Store {
             to.fail(self.g, &format!("harness: a format is {status:?}"));
         }
         self.book.iter_mut().for_each(|page| page.fill(0));
+        self.written.fill(false);
     }
 
     /// The call on the store's own images; the book is fed its arguments and its answer.
@@ -58,14 +62,19 @@ impl Store {
     /// A call that is done. "A later call that writes a page puts there, once done, what its request says, worked out
     /// from the book."
     fn enter(&mut self, call: &Call) {
-        match call {
-            Call::Write { page, data, .. } => self.book[*page as usize].clone_from(data),
+        let page = match call {
+            Call::Write { page, data, .. } => {
+                self.book[*page as usize].clone_from(data);
+                *page as usize
+            }
             Call::Add { ticket, .. } => {
                 let (page, at) = self.log_end();
                 self.book[page][at..at + TICKET_BYTES].copy_from_slice(ticket);
+                page
             }
-            _ => {}
-        }
+            _ => return,
+        };
+        self.written[page] = true;
     }
 
     pub fn log(&self) -> Log {
@@ -78,17 +87,29 @@ impl Store {
         (end / self.shape.w, end % self.shape.w)
     }
 
-    /// Holds what an addition or a question is answered against the book's log, if it was not turned back before that.
+    /// How a page of the images is got.
+    fn origin(&self, images: &Images, lost: u64, page: usize) -> u64 {
+        of_booked(images.view(self.shape), lost, page, self.written[page])
+    }
+
+    /// Holds what an addition or a question is answered against the book's log, and a read's origin against the pages
+    /// written, if the call was not turned back before that.
     fn hold_answer(&self, to: &Comparison, call: &Call, answer: Answer) {
         let status = answer.status.status;
         let as_booked = match call {
             _ if (1..=10).contains(&status) => true,
             Call::Add { ticket, .. } => self.adds(ticket).contains(&status),
-            Call::Find { lot, bag, .. } => finds(&self.log(), *lot, *bag) == (status, answer.found),
+            Call::Find { lost, lot, bag } => {
+                self.finds(&self.log(), &self.images, *lost, (*lot, *bag))
+                    == (status, answer.found, answer.origin)
+            }
+            Call::Read { lost, page, .. } => {
+                answer.origin == self.origin(&self.images, *lost, *page as usize)
+            }
             _ => true,
         };
         if !as_booked {
-            to.fail(self.g, &format!("{}: answered {answer:?}, but not by the book's log", call.name()));
+            to.fail(self.g, &format!("{}: answered {answer:?}, but not by the book", call.name()));
         }
     }
 
@@ -100,6 +121,19 @@ impl Store {
             (true, true) => &[12],
             (true, false) => &[DONE, CUT],
         }
+    }
+
+    /// What a question is answered: the status, whether a weight stands, gross and tare, and the origin. Its pages are
+    /// those up to and including the one with the log's end.
+    fn finds(&self, log: &Log, images: &Images, lost: u64, (lot, bag): (u32, u16)) -> (u64, [u64; 3], u64) {
+        if log.first_bad().is_some() {
+            return (11, [0; 3], 0);
+        }
+        let pages = (log.bytes.len() / self.shape.w + 1).min(self.book.len());
+        let origins: Vec<u64> = (0..pages).map(|page| self.origin(images, lost, page)).collect();
+        let tickets = log.pages_of_bag(lot, bag, self.shape.w);
+        let asked = Asked { origins: &origins, full: log.is_full(), tickets: &tickets };
+        (DONE, log.standing(lot, bag), asked.origin())
     }
 
     pub fn view(&self) -> View<'_> {
@@ -133,10 +167,13 @@ impl Store {
         pages: &[usize],
     ) -> bool {
         for &page in pages {
-            let found = to.page(random, self.g, images, lost, page as u64);
-            if found != self.book[page] {
-                to.fail(self.g, &format!("page {page} read with lost chip {lost} is not as the book has it"));
+            let (found, answer) = to.page(random, self.g, images, lost, page as u64);
+            let origin = self.origin(images, lost, page);
+            if found != self.book[page] || answer.origin != origin {
+                let read = format!("page {page} read with lost chip {lost}, origin {}", answer.origin);
+                to.fail(self.g, &format!("{read}: not as the book has it, origin {origin}"));
             }
+            hit_origin(&mut to.coverage, origin, "page held");
         }
         self.hold_log(to, random, images, lost)
     }
@@ -146,17 +183,21 @@ impl Store {
         let log = self.log();
         let (lot, bag) = log.any_bag(random);
         let answer = to.answer(random, self.g, images, &Call::Find { lost, lot, bag });
-        let expected = finds(&log, lot, bag);
-        if (answer.status.status, answer.found) != expected {
+        let expected = self.finds(&log, images, lost, (lot, bag));
+        if (answer.status.status, answer.found, answer.origin) != expected {
             let asked = format!("lot {lot}, bag {bag}, asked for with lost chip {lost}");
             to.fail(self.g, &format!("{asked}: answered {answer:?}, the book's log has {expected:?}"));
         }
-        to.coverage.hit(match expected {
-            (DONE, [1, ..]) => "log held, a weight stands",
-            (DONE, _) => "log held, none stands",
+        let point = match expected {
+            (DONE, [1, ..], _) => "log held, a weight stands",
+            (DONE, ..) => "log held, none stands",
             _ => "log held, refused 11",
-        });
+        };
+        to.coverage.hit(point);
         let good = expected.0 == DONE;
+        if good {
+            hit_origin(&mut to.coverage, expected.2, point);
+        }
         to.coverage.hit_if(good && log.is_full(), "log held, it fills every page");
         to.coverage.hit_if(good && log.tickets().len() >= 100, "log held of 100 tickets or more");
         good && !log.bytes.is_empty()
@@ -236,13 +277,5 @@ impl Store {
             }
             self.hold_some(to, random, &left, None);
         });
-    }
-}
-
-/// What a log has a question answered: the status, whether a weight stands, gross and tare.
-fn finds(log: &Log, lot: u32, bag: u16) -> (u64, [u64; 3]) {
-    match log.first_bad() {
-        Some(_) => (11, [0; 3]),
-        None => (DONE, log.standing(lot, bag)),
     }
 }

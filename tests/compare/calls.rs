@@ -244,7 +244,7 @@ impl Comparison {
         self.on_both(random, g, images, call).0
     }
 
-    /// A read, which must be done, and the page.
+    /// A read, which must be done: the page, and the answer.
     pub fn page(
         &mut self,
         random: &mut Random,
@@ -252,15 +252,16 @@ impl Comparison {
         images: &mut Images,
         lost: u64,
         page: u64,
-    ) -> Vec<u8> {
+    ) -> (Vec<u8>, Answer) {
         let call = Call::Read { lost, page, buffer: random.bytes(g.w as usize) };
         let (answer, bytes) = self.on_both(random, g, images, &call);
         if answer.status.status != DONE {
             self.fail(g, &format!("{}: answered {answer:?}, and every page is owed", call.describe()));
         }
-        bytes
+        (bytes, answer)
     }
 
+    /// The library's answer, and the bytes that it brought along as they are left.
     fn on_both(
         &mut self,
         random: &mut Random,
@@ -286,7 +287,7 @@ impl Comparison {
             self.fail(g, &format!("harness: {}: {what}", call.describe()));
         }
         self.note_strange(g, &before, call, expected.status);
-        (expected, bytes)
+        (found, bytes)
     }
 
     /// The call through the library, on copies of the images that it leaves in `lent`.

@@ -7,7 +7,7 @@ use crate::generator::{self, ALL, LARGE};
 use crate::geometries::{good_geometry, largest_geometry};
 use crate::logs::lay_log;
 use crate::random::Random;
-use crate::reference::{self, Geometry, Images, Shape, CUT, DONE, NO_CHIP, RECORD_BYTES};
+use crate::reference::{self, Geometry, Images, Shape, Status, CUT, DONE, NO_CHIP, RECORD_BYTES};
 use crate::requests::{any_call, any_data, any_storing, highest_page, limited, other_length};
 use crate::strange::strange_things;
 use crate::tickets::{any_ticket, lot_and_bag};
@@ -299,11 +299,8 @@ fn open_sound(to: &mut Comparison, random: &mut Random, g: Geometry, shape: Shap
     let (lot, bag) = lot_and_bag(random);
     to.call(random, g, images, &Call::Find { lost, lot, bag });
     let call = Call::Open { lost: NO_CHIP, allowance: ALL };
-    if shape.pages() < LARGE && random.one_in(3) {
-        to.every_allowance(random, g, images, &call, |_, _, _, _| {});
-    }
-    let call = limited(random, g, images, call);
-    let status = to.call(random, g, &mut opened, &call);
+    let every = shape.pages() < LARGE && random.one_in(3);
+    let status = store_limited(to, random, g, &mut opened, call, every);
     if ![DONE, CUT].contains(&status.status) {
         to.fail(g, &format!("harness: sound images are {status:?}"));
     }
@@ -328,12 +325,25 @@ fn store_sound(to: &mut Comparison, random: &mut Random, g: Geometry, shape: Sha
     }
     for _ in 0..random.between(1, 4) {
         let call = any_storing(random, images, shape, NO_CHIP);
-        if shape.pages() < LARGE && random.one_in(6) {
-            to.every_allowance(random, g, images, &call, |_, _, _, _| {});
-        }
-        let call = limited(random, g, images, call);
-        to.call(random, g, images, &call);
+        let every = shape.pages() < LARGE && random.one_in(6);
+        store_limited(to, random, g, images, call, every);
     }
+}
+
+/// A call with any allowance, and with every one first if so asked.
+pub fn store_limited(
+    to: &mut Comparison,
+    random: &mut Random,
+    g: Geometry,
+    images: &mut Images,
+    call: Call,
+    every: bool,
+) -> Status {
+    if every {
+        to.every_allowance(random, g, images, &call, |_, _, _, _| {});
+    }
+    let call = limited(random, g, images, call);
+    to.call(random, g, images, &call)
 }
 
 /// The largest images, on which each call takes long: a few calls of each kind.

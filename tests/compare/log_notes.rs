@@ -168,9 +168,7 @@ impl Walk<'_> {
     }
 
     fn note_origin(&self, coverage: &mut Coverage, lot: u32, bag: u16, said: u64) -> Result<(), String> {
-        let tickets = self.log.of_bag(lot, bag);
-        let page = |ticket: &[u8]| self.offset(ticket) / self.w();
-        let tickets: Vec<_> = tickets.into_iter().map(|t| (page(t), t[0] == WEIGHT)).collect();
+        let tickets = self.log.pages_of_bag(lot, bag, self.w());
         let asked = Asked { origins: &self.origins, full: self.log.is_full(), tickets: &tickets };
         asked.note(coverage, said)
     }

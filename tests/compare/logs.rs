@@ -3,10 +3,10 @@
 use crate::calls::{Call, Comparison};
 use crate::generator::{self, leave_collection, store_record, store_spare, ALL};
 use crate::geometries::{largest_geometry, log_geometry};
-use crate::images::{fill_chip, lose_chip, random_calls, FILLINGS};
+use crate::images::{fill_chip, lose_chip, random_calls, store_limited, FILLINGS};
 use crate::random::Random;
 use crate::reference::*;
-use crate::requests::{any_question, limited};
+use crate::requests::any_question;
 use crate::strange::strange_things;
 use crate::tickets::{any_ticket, end_log, good_ticket, spoil, ticket_page, tickets, Log};
 
@@ -202,11 +202,8 @@ fn ask_around(to: &mut Comparison, random: &mut Random, g: Geometry, shape: Shap
 fn add_some(to: &mut Comparison, random: &mut Random, g: Geometry, images: &mut Images) {
     for _ in 0..random.between(1, 4) {
         let call = Call::Add { lost: NO_CHIP, ticket: any_ticket(random), allowance: ALL };
-        if random.one_in(4) {
-            to.every_allowance(random, g, images, &call, |_, _, _, _| {});
-        }
-        let call = limited(random, g, images, call);
-        to.call(random, g, images, &call);
+        let every = random.one_in(4);
+        store_limited(to, random, g, images, call, every);
     }
 }
 

@@ -1,5 +1,5 @@
 //! How pages are got, told from the records once more, and what reads and questions have shown of it. The reference is
-//! held to it.
+//! held to it, and so are answers that the price book holds.
 
 use crate::coverage::Coverage;
 use crate::points::ORIGINS;
@@ -7,13 +7,29 @@ use crate::reference::{Record, Shape, View, NONE};
 
 /// How a member's page is got, as a number: a place in `ORIGINS`.
 pub fn origin_of(shape: Shape, stripe: usize, record: &Record, member: usize, lost: u64) -> u64 {
+    match record.current[member] {
+        NONE => 0,
+        _ => of_written(shape, stripe, record, member, lost),
+    }
+}
+
+/// The same of a page that was written.
+fn of_written(shape: Shape, stripe: usize, record: &Record, member: usize, lost: u64) -> u64 {
     let on_lost = shape.member_chip(stripe, member) as u64 == lost;
     let in_partial = record.bitmap & 1 << member != 0;
-    match (record.current[member], on_lost, in_partial) {
-        (NONE, _, _) => 0,
-        (_, false, _) => 1,
-        (_, true, true) => 2,
-        (_, true, false) => 3,
+    match (on_lost, in_partial) {
+        (false, _) => 1,
+        (true, true) => 2,
+        (true, false) => 3,
+    }
+}
+
+/// How a logical page is got, if it is known without its record whether it was written.
+pub fn of_booked(view: View, lost: u64, page: usize, written: bool) -> u64 {
+    let (stripe, member) = (page / view.shape.n, page % view.shape.n);
+    match written {
+        false => 0,
+        true => of_written(view.shape, stripe, &view.record(stripe), member, lost),
     }
 }
 
@@ -22,7 +38,7 @@ fn of_page(view: View, lost: u64, page: u64) -> u64 {
     origin_of(view.shape, stripe, &view.record(stripe), member, lost)
 }
 
-fn hit_origin(coverage: &mut Coverage, origin: u64, what: &str) {
+pub fn hit_origin(coverage: &mut Coverage, origin: u64, what: &str) {
     coverage.hit(&format!("origin {}: {what}", ORIGINS[origin as usize]));
 }
 
@@ -68,12 +84,17 @@ impl Asked<'_> {
         *self.origins.iter().max().expect("a log has a page")
     }
 
-    /// A question that is not refused, and what it said.
-    pub fn note(&self, coverage: &mut Coverage, said: u64) -> Result<(), String> {
-        let origin = match self.tickets {
+    /// What is to be said: of a weight its page's, of none the greatest.
+    pub fn origin(&self) -> u64 {
+        match self.tickets {
             [.., (page, true)] => self.origins[*page],
             _ => self.greatest(),
-        };
+        }
+    }
+
+    /// A question that is not refused, and what it said.
+    pub fn note(&self, coverage: &mut Coverage, said: u64) -> Result<(), String> {
+        let origin = self.origin();
         if said != origin {
             return Err(format!("origin {said}, the log has {origin}"));
         }

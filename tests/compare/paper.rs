@@ -125,8 +125,7 @@ impl ComparedStore<'_> {
 
     /// The page as it reads, with what the read answers.
     fn read(&mut self, page: u64) -> (Vec<u8>, Answer) {
-        let answer = self.answer(Call::Read { lost: self.lost, page, buffer: vec![0x77; 16] });
-        (self.to.page(&mut self.random, self.g, &mut self.images, self.lost, page), answer)
+        self.to.page(&mut self.random, self.g, &mut self.images, self.lost, page)
     }
 
     /// Where a chip is lost its bytes are gone meanwhile.
@@ -607,7 +606,7 @@ fn behind_the_end(to: &mut Comparison) {
     let counts = store.add(&good);
     store.holds(counts == [2, 1, 0, 3], "the page for the log, and for the partial parity");
     store.refuses(&good, 11, 11);
-    let page = store.to.page(&mut store.random, store.g, &mut store.images, NO_CHIP, 0);
+    let (page, _) = store.read(0);
     store.holds(page == [ticket(1, 3, 7, 8, 1), good, bad].concat(), "other bytes are kept");
 }
 

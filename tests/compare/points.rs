@@ -271,13 +271,16 @@ pub const ORIGINS: [&str; 4] =
 
 /// What says an origin, and the lowest that it can say: a page with a ticket was written, and so was every page of a
 /// full log.
-pub const SAYING: [(&str, usize); 6] = [
+pub const SAYING: [(&str, usize); 9] = [
     ("read", 0),
     ("find a weight", 1),
     ("find a weight, the log full", 1),
     ("find none, no such ticket", 0),
     ("find none, withdrawn", 1),
     ("find none, the log full", 1),
+    ("page held", 0),
+    ("log held, a weight stands", 1),
+    ("log held, none stands", 0),
 ];
 
 pub const ORIGIN: [&str; 14] = [

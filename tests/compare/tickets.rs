@@ -202,10 +202,21 @@ impl Log {
         self.tickets().enumerate().find(|(_, ticket)| !broken(ticket).is_empty())
     }
 
+    /// All tickets of the lot and the bag, each with its place among the tickets.
+    fn places_of_bag(&self, lot: u32, bag: u16) -> impl Iterator<Item = (usize, &[u8])> {
+        let named = [&bag.to_le_bytes()[..], &lot.to_le_bytes()].concat();
+        self.tickets().enumerate().filter(move |(_, ticket)| ticket[2..8] == named)
+    }
+
     /// All tickets of the lot and the bag.
     pub fn of_bag(&self, lot: u32, bag: u16) -> Vec<&[u8]> {
-        let named = [&bag.to_le_bytes()[..], &lot.to_le_bytes()].concat();
-        self.tickets().filter(|ticket| ticket[2..8] == named).collect()
+        self.places_of_bag(lot, bag).map(|(_, ticket)| ticket).collect()
+    }
+
+    /// Of each of them the page, of w bytes, and whether it is a weight.
+    pub fn pages_of_bag(&self, lot: u32, bag: u16, w: usize) -> Vec<(usize, bool)> {
+        let of_ticket = |(place, ticket): (usize, &[u8])| (place * TICKET_BYTES / w, ticket[0] == WEIGHT);
+        self.places_of_bag(lot, bag).map(of_ticket).collect()
     }
 
     /// Whether a weight stands, gross and tare; zeros if none does.

@@ -26,7 +26,7 @@ use Rattle.rules.specs.declared.Origin.the-variants.{Unwritten}
 use Rattle.rules.specs.declared.Ticket.{Ticket}
 use Rattle.rules.specs.declared.Standing.the-variants.{Nothing as NoWeight}
 use Rattle.rules.specs.Read.{fetch, fetchMember}
-use Rattle.rules.specs.Origins.{later, lastOrigin}
+use Rattle.rules.specs.Origins.{greater, greatestOrigin}
 use Rattle.rules.specs.Tickets.{ticketBytes, isEmpty, ticketSound, isFor, weightOf}
 use Rattle.rules.specs.Log.{carried, perPage, places, fallsIn, bytesAt, ticketAt, contents, origins, logEnd, logLength, logSound, latest, standing, logPages, logOrigin, logReads}
 use Rattle.log.specs.declared.Shown.{Shown}
@@ -80,19 +80,17 @@ module _ (l : Layout) (f : ℕ → List ℕ) where
     abbrev Told : Found → ℕ → Held → Type 0
     Told end pages last =
         (logEnd l f ≡ end) × (logSound l f ≡ true) × (standing l f lot bag ≡ last .standing)
-        × (logOrigin l f o lot bag ≡ carried (last .standing) (last .origin) (lastOrigin pages o))
+        × (logOrigin l f o lot bag ≡ carried (last .standing) (last .origin) (greatestOrigin pages o))
 
     stands-held : (r : Found) → whenFound r (λ t. weightOf (ticketAt l f t)) NoWeight ≡ whenFound r heldAt nothingHeld .standing
     unfolding whenFound
     stands-held (At t) = refl
     stands-held Nothing = refl
 
-    carries-held : (r : Found) (any : Origin)
-        → whenFound r (λ t. carried (weightOf (ticketAt l f t)) (o (fallsIn l t)) any) any
-        ≡ carried (whenFound r heldAt nothingHeld .standing) (whenFound r heldAt nothingHeld .origin) any
+    origin-held : (r : Found) → whenFound r (λ t. o (fallsIn l t)) Unwritten ≡ whenFound r heldAt nothingHeld .origin
     unfolding whenFound
-    carries-held (At t) any = refl
-    carries-held Nothing any = refl
+    origin-held (At t) = refl
+    origin-held Nothing = refl
 
     none-empty : {n : ℕ} {last : Held} → SeenTo n last → (k : ℕ) → k < n → isEmpty (ticketAt l f k) ≡ false
     none-empty {n} s k h = not-empty (ticketAt l f k) (all-at n (λ t. ticketSound (ticketAt l f t)) (s .sound) k h)
@@ -107,8 +105,7 @@ module _ (l : Layout) (f : ℕ → List ℕ) where
           e,
           rw e (s .sound),
           rw e (stands-held found ∙ ap (λ (x : Held). x .standing) stands),
-          rw e (carries-held found (lastOrigin (whenFound end (λ t. fallsIn l t + 1) (l .N * l .S)) o)
-              ∙ ap (λ (x : Held). carried (x .standing) (x .origin) (lastOrigin (whenFound end (λ t. fallsIn l t + 1) (l .N * l .S)) o)) stands),
+          rw (e, stands-held found, origin-held found, stands),
         )
 
     -- the ticket at place n ends the log
@@ -147,15 +144,15 @@ module _ (l : Layout) (s : Images) (lost lot bag : ℕ) where
   readsTo i = sumBelow i (λ k. fetch l s lost k .reads)
 
   -- i pages have been walked, none of whose tickets ends the log or breaks the rules
-  pub record Going (latest : Latest) (last : Origin) (reads i : ℕ) : Type 0 where
+  pub record Going (latest : Latest) (greatest : Origin) (reads i : ℕ) : Type 0 where
     pub below : i ≤ N * S
     pub seen : SeenTo l (contents l s lost) (origins l s lost) lot bag (i * perPage l) (heldFrom latest)
-    pub told : last ≡ lastOrigin i (origins l s lost)
+    pub told : greatest ≡ greatestOrigin i (origins l s lost)
     pub counted : reads ≡ readsTo i
     pub few : reads ≤ 7 * i
 
   pub going : {latest : Latest} → heldFrom latest ≡ nothingHeld → Going latest Unwritten 0 0
-  unfolding sumBelow lastOrigin
+  unfolding sumBelow greatestOrigin
   going e = record {
     below = omega arith;
     seen = rw (zero-mul, e) (stands-none lot bag (ticketAt l (contents l s lost)) (heldAt l (contents l s lost) (origins l s lost) lot bag) nothingHeld);
@@ -165,19 +162,19 @@ module _ (l : Layout) (s : Images) (lost lot bag : ℕ) where
   }
 
   -- the next one was looked at
-  pub record Next (last : Origin) (reads i : ℕ) (r : Looked) : Type 0 where
+  pub record Next (greatest : Origin) (reads i : ℕ) (r : Looked) : Type 0 where
     pub inside : i < N * S
     pub long : length (contents l s lost i) ≡ W
     pub shows : PageShows (contents l s lost i) lot bag (r .shown)
     pub seen : SeenTo l (contents l s lost) (origins l s lost) lot bag (i * perPage l + r .shown .kept) (heldFrom (r .latest))
-    pub told : later last (r .origin) ≡ lastOrigin (i + 1) (origins l s lost)
+    pub told : greater greatest (r .origin) ≡ greatestOrigin (i + 1) (origins l s lost)
     pub counted : reads + r .reads ≡ readsTo (i + 1)
     pub few : reads + r .reads ≤ 7 * (i + 1)
 
-  pub next : {latest : Latest} {last : Origin} {reads i : ℕ} {r : Looked} → Going latest last reads i → i < N * S → PageLooked l s lost lot bag i latest r
-      → Next last reads i r
-  unfolding lastOrigin
-  next {latest} {last} {reads} {i} {r} g h p = record {
+  pub next : {latest : Latest} {greatest : Origin} {reads i : ℕ} {r : Looked} → Going latest greatest reads i → i < N * S → PageLooked l s lost lot bag i latest r
+      → Next greatest reads i r
+  unfolding greatestOrigin
+  next {latest} {greatest} {reads} {i} {r} g h p = record {
     inside = h;
     long = p .long;
     shows = p .shows;
@@ -187,8 +184,8 @@ module _ (l : Layout) (s : Images) (lost lot bag : ℕ) where
     few = omega (arith, g .few, p .few);
   }
 
-  module _ {last : Origin} {reads i : ℕ} {r : Looked} (x : Next last reads i r) where
-    pub goes-on : {now : Origin} → now ≡ later last (r .origin) → perPage l ≤ r .shown .kept → Going (r .latest) now (reads + r .reads) (i + 1)
+  module _ {greatest : Origin} {reads i : ℕ} {r : Looked} (x : Next greatest reads i r) where
+    pub goes-on : {now : Origin} → now ≡ greater greatest (r .origin) → perPage l ≤ r .shown .kept → Going (r .latest) now (reads + r .reads) (i + 1)
     goes-on e h =
         let few : r .shown .kept ≤ perPage l = rw (x .long) at (x .shows .few) in
         let all : r .shown .kept ≡ perPage l = omega arith in
@@ -202,8 +199,8 @@ module _ (l : Layout) (s : Images) (lost lot bag : ℕ) where
         }
 
   module _ (w : Within l) where
-    module _ {last : Origin} {reads i : ℕ} {r : Looked} (x : Next last reads i r) where
-      pub walk-ended : {o : Walk} → o ≡ whole (At (i * perPage l + r .shown .kept)) (reads + r .reads) (r .latest) (later last (r .origin)) → r .shown .ended ≡ true
+    module _ {greatest : Origin} {reads i : ℕ} {r : Looked} (x : Next greatest reads i r) where
+      pub walk-ended : {o : Walk} → o ≡ whole (At (i * perPage l + r .shown .kept)) (reads + r .reads) (r .latest) (greater greatest (r .origin)) → r .shown .ended ≡ true
           → r .shown .kept < perPage l → Walked l s lost lot bag o
       unfolding logReads logPages whenFound
       walk-ended is ends h =
@@ -229,7 +226,7 @@ module _ (l : Layout) (s : Images) (lost lot bag : ℕ) where
           rw e (record { tells = rw wrong; few = omega arith }))
           (λ h. let all : r .shown .kept ≡ length (contents l s lost i) / ticketBytes = rw (x .long) (omega arith) in both _ (x .shows .over all) ends)
 
-    pub walk-full : {latest : Latest} {last : Origin} {reads i : ℕ} {o : Walk} → o ≡ whole Nothing reads latest last → Going latest last reads i → N * S ≤ i
+    pub walk-full : {latest : Latest} {greatest : Origin} {reads i : ℕ} {o : Walk} → o ≡ whole Nothing reads latest greatest → Going latest greatest reads i → N * S ≤ i
         → Walked l s lost lot bag o
     unfolding logReads logPages whenFound
     walk-full {i = i} is g h =

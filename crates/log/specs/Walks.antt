@@ -13,11 +13,12 @@ use Rattle.layout.specs.Layout.{Layout}
 use Rattle.layout.specs.Rotation.{memberOf, stripeOf, parityChip}
 use Rattle.layout.specs.Images.{Images}
 use Rattle.rules.specs.declared.Origin.{Origin}
-use Rattle.rules.specs.declared.Origin.the-variants.{Unwritten, Direct, Partial, Full}
+use Rattle.rules.specs.declared.Origin.the-variants.{Unwritten}
 use Rattle.rules.specs.declared.Ticket.{Ticket}
 use Rattle.rules.specs.declared.Standing.{Standing}
 use Rattle.rules.specs.declared.Standing.the-variants.{Weighed, Nothing as NoWeight}
 use Rattle.rules.specs.Read.{fetch}
+use Rattle.rules.specs.Origins.{originNumbered}
 use Rattle.rules.specs.Tickets.{ticketBytes, ticketOf, isEmpty, ticketSound, isFor, weightOf}
 use Rattle.rules.specs.Log.{carried, contents, origins, logEnd, logSound, logReads, standing, logOrigin}
 use Rattle.log.specs.declared.Shown.{Shown}
@@ -73,10 +74,6 @@ pub record Held : Type 0 where
 abbrev pub heldBy : Ticket → Origin → Held
 heldBy t o = record { standing = weightOf t; origin = o }
 
--- the origin of a number
-abbrev pub originNumbered : ℕ → Origin
-originNumbered n = cond (eqb n 0) Unwritten (cond (eqb n 1) Direct (cond (eqb n 2) Partial Full))
-
 -- as the code has it: "if it is a weight, else none"
 abbrev pub heldFrom : Latest → Held
 heldFrom x =
@@ -89,15 +86,15 @@ heldFrom x =
 abbrev pub nothingHeld : Held
 nothingHeld = record { standing = NoWeight; origin = Unwritten }
 
--- a log whose tickets are sound, where `last` is the last of the origins of its pages
+-- a log whose tickets are sound, with the greatest origin of its pages
 abbrev pub whole : Found → ℕ → Latest → Origin → Walk
-whole end reads x last =
+whole end reads x greatest =
     record {
       sound = true;
       end = end;
       reads = reads;
       standing = heldFrom x .standing;
-      origin = carried (heldFrom x .standing) (heldFrom x .origin) last;
+      origin = carried (heldFrom x .standing) (heldFrom x .origin) greatest;
     }
 
 -- logical page i, and the chip of its stripe's parity

@@ -29,11 +29,11 @@ ghost use Rattle.steps.specs.Allowance.{images};
 ghost use Rattle.rules.specs.Sound.{recordSound};
 ghost use Rattle.rules.specs.Read.{fetch};
 ghost use Rattle.rules.specs.Log.{carried, contents};
-ghost use Rattle.rules.specs.Origins.{later as laterOf};
+ghost use Rattle.rules.specs.Origins.{originNumbered, greater as greaterOf};
 ghost use Rattle.fetch.specs.Into.{isDirect};
 ghost use Rattle.rules.specs.Tickets.{ticketBytes, ticketOf, ticketSound, isFor};
 ghost use Rattle.codec.specs.Fit.{ChipsFit, RecordsFit, SlotsFit};
-ghost use Rattle.log.specs.Walks.{broken as brokenWalk, whole as wholeWalk, ticketsIn, originNumbered, heldFrom, heldBy, positionOf, isPlain, PageShows, PageLooked, Walked};
+ghost use Rattle.log.specs.Walks.{broken as brokenWalk, whole as wholeWalk, ticketsIn, heldFrom, heldBy, positionOf, isPlain, PageShows, PageLooked, Walked};
 
 // The bytes of a ticket.
 pub const TICKET: usize = 16;
@@ -205,9 +205,9 @@ fn latest_of(page: &[u8], shown: Shown, origin: Origin, before: Latest) -> Lates
     before
 }
 
-// Of two origins the later.
-fn later(a: Origin, b: Origin) -> Origin
-    ensures { λ r. ⌜ r ≡ laterOf a b ⌝ }
+// Of two origins the one of the greater number.
+fn greater(a: Origin, b: Origin) -> Origin
+    ensures { λ r. ⌜ r ≡ greaterOf a b ⌝ }
 {
     if origin_number(a) <= origin_number(b) {
         return b;
@@ -244,14 +244,14 @@ fn origin_numbered(n: u32) -> Origin
     Origin::Full
 }
 
-// How it was got: a ticket that is given carries the origin of its page.
-fn origin_of(x: Latest, last: Origin) -> Origin
-    ensures { λ r. ⌜ r ≡ carried (heldFrom x .standing) (heldFrom x .origin) last ⌝ }
+// How it was got: a ticket that is given carries the origin of its page, any other reading the greatest.
+fn origin_of(x: Latest, greatest: Origin) -> Origin
+    ensures { λ r. ⌜ r ≡ carried (heldFrom x .standing) (heldFrom x .origin) greatest ⌝ }
 {
     if x.kind == 1 {
         return origin_numbered(x.origin);
     }
-    last
+    greatest
 }
 
 // A logical page, where it stands.
@@ -386,7 +386,7 @@ pub struct Walk {
     pub reads: u64,
     // what stands for the lot and bag
     pub standing: Standing,
-    // how its page was got; where nothing stands, the latest origin of all pages
+    // how its page was got; where nothing stands, the greatest origin of the pages up to the log's end
     pub origin: Origin,
 }
 
@@ -403,16 +403,16 @@ fn broken() -> Walk
     }
 }
 
-// A log whose tickets are sound, where `last` is the latest origin of its pages.
-fn whole(end: Found, reads: u64, latest: Latest, last: Origin) -> Walk
-    ensures { λ r. ⌜ r ≡ wholeWalk end reads latest last ⌝ }
+// A log whose tickets are sound, with the greatest origin of its pages.
+fn whole(end: Found, reads: u64, latest: Latest, greatest: Origin) -> Walk
+    ensures { λ r. ⌜ r ≡ wholeWalk end reads latest greatest ⌝ }
 {
     Walk {
         sound: true,
         end,
         reads,
         standing: standing_of(latest),
-        origin: origin_of(latest, last),
+        origin: origin_of(latest, greatest),
     }
 }
 
@@ -440,25 +440,25 @@ pub fn walk_log(
         origin: 0,
     };
     let mut reads = 0;
-    let mut last = Origin::Unwritten;
+    let mut greatest = Origin::Unwritten;
     let mut at = first_page(g);
     while at.page < pages {
         let seen = look_at_page(work, chips, records, slots, g, lost, at, lot, bag, latest);
         reads += seen.reads;
         latest = seen.latest;
         let origin = seen.origin;
-        let with_page = later(last, origin);
-        last = with_page;
+        let with_page = greater(greatest, origin);
+        greatest = with_page;
         let shown = seen.shown;
         if !shown.ended {
             return broken();
         }
         if shown.kept < per_page {
             let end = Found::At(at.page * per_page + shown.kept);
-            return whole(end, reads, latest, last);
+            return whole(end, reads, latest, greatest);
         }
         let next = next_page(g, at);
         at = next;
     }
-    whole(Found::Nothing, reads, latest, last)
+    whole(Found::Nothing, reads, latest, greatest)
 }

@@ -42,7 +42,7 @@ use Rattle.rules.specs.Read.{fetch}
 use Rattle.rules.specs.Tickets.{ticketBytes, ticketOf, ticketSound}
 use Rattle.rules.specs.Log.{fallsIn, logEnd, logSound, withTicket, contents, logReads, addSteps}
 use Rattle.rules.specs.Calls.{ReadOutcome, Verdict, done, cut, refused, verdict, run, outcome, formatCall, readCall, writeCall, addCall}
-use Rattle.rules.specs.Demand.{TellsTheOrigin, AfterBothLists, Demand3}
+use Rattle.rules.specs.Demand.{ReadGives, TellsTheOrigin, AfterBothLists, Demand3}
 use Rattle.rules.proofs.Soundness.Statements.{Usable, RecordsSound, ChipSound, SoundBut, Sound, sound-chip, rest-collects}
 use Rattle.rules.proofs.Soundness.Checks.{lengths-are, images-sound, lengths-pass, records-check-pass, spares-check-pass}
 use Rattle.rules.proofs.Soundness.Accepted.{images-accepted, read-passes, WriteAccepted, write-accepted, write-passes, add-accepted, add-passes, commit-accepted, collect-accepted, find-accepted, find-passes}
@@ -59,6 +59,7 @@ use Rattle.rules.proofs.Lists.Committing.{StoresRecord, Committed, comm
 use Rattle.rules.proofs.Lists.Writing.{write-closes}
 use Rattle.rules.proofs.Demand.Invariant.{no-copies-at-rest}
 use Rattle.rules.proofs.Demand.Events.{origins-told, demand-3}
+use Rattle.rules.proofs.Demand.Origins.{OriginsSay, origins-say}
 use Rattle.rules.proofs.Demand.Tickets.{TicketsKept, tickets-kept}
 
 module _ (l : Layout) where
@@ -99,19 +100,13 @@ module _ (l : Layout) where
     pub commits : (j : ℕ) → j < S → hasSlot (recordAt l (s .records) j) ≡ true
         → EndsIn (StoresRecord j) (commitSteps l j s) × Committed l j s (applyAll l (commitSteps l j s) s)
 
-  -- the read of page i of images s that names no chip is done, says that the page was got so, and gives ys
-  abbrev pub Reads : Images → ℕ → Origin → List ℕ → Type 0
-  Reads s i o ys =
-      (buffer : List ℕ) → length buffer ≡ W
-      → (n : Counts) × (_≡_ {A = ReadOutcome} (readCall l s noChip i buffer) (record { answer = ReadDone n o; buffer = ys }))
-
   -- page i of t reads as in s
   abbrev pub ReadsAs : Images → Images → ℕ → Type 0
-  ReadsAs s t i = (o : Origin) × (ys : List ℕ) × Reads s i o ys × Reads t i o ys
+  ReadsAs s t i = (o : Origin) × (ys : List ℕ) × ReadGives l s noChip i o ys × ReadGives l t noChip i o ys
 
   -- Reading back: a write that is done put its data into its page, and every other page reads as before; one that is cut changed no page.
   pub record ReadsBack (s : Images) (page : ℕ) (xs : List ℕ) (v : Verdict) (t : Images) : Type 0 where
-    pub here : v ≡ done → Reads t page Direct xs
+    pub here : v ≡ done → ReadGives l t noChip page Direct xs
     pub elsewhere : v ≡ done → (i : ℕ) → i < N * S → i ≢ page → ReadsAs s t i
     pub cut-short : v ≡ cut → (i : ℕ) → i < N * S → ReadsAs s t i
 
@@ -142,6 +137,8 @@ module _ (l : Layout) where
     pub demand-3 : Demand3 l
     -- over the same lists, every read says how its page was got
     pub origins : AfterBothLists l (TellsTheOrigin l)
+    -- what that is, sentence by sentence
+    pub origins-say : OriginsSay l
     pub tickets : TicketsKept l
     -- demand 3 has something to start from, in every geometry within the limits
     pub starts : limits l ≡ true → (s : Images) → lengths l s ≡ true → (a : ℕ) → length (formatSteps l) ≤ a
@@ -198,7 +195,7 @@ module _ (l : Layout) (some : 1 ≤ l .D) (narrow : l .D ≤ 4) where
     commits = λ j fits has. let c = commit-closes l (usable w) j fits s f rest has in (c .last, c .whole);
   }
 
-  sound-reads : Within l → (s : Images) → Sound l s → (i : ℕ) → i < N * S → Reads l s i (fetch l s noChip i .origin) (fetch l s noChip i .bytes)
+  sound-reads : Within l → (s : Images) → Sound l s → (i : ℕ) → i < N * S → ReadGives l s noChip i (fetch l s noChip i .origin) (fetch l s noChip i .bytes)
   unfolding readCall
   sound-reads w s f i inside buffer whole = (
     record { reads = fetch l s noChip i .reads; programs = 0; erases = 0; stores = 0 },
@@ -283,6 +280,7 @@ module _ (l : Layout) (some : 1 ≤ l .D) (narrow : l .D ≤ 4) where
     cut-rule = cut-rules l;
     demand-3 = demand-3 l some narrow;
     origins = origins-told l some narrow;
+    origins-say = origins-say l;
     tickets = tickets-kept l some narrow;
     starts = λ fit s long a enough. format-finishes l s a fit long enough;
   }

@@ -1,10 +1,8 @@
 -- Document 01, "The price book": "a book that knows no chips".
 use Prim.Native.Nat.{ℕ}
 use mathlib.Core.Bool.{Bool, true}
-use mathlib.Core.List.{List, []}
+use mathlib.Core.List.{List}
 use lib.ListN.{replicate}
-use Rattle.ranges.specs.declared.Found.{Found}
-use Rattle.ranges.specs.declared.Found.the-variants.{At, Nothing}
 use Rattle.ranges.specs.Look.{whenFound}
 use Rattle.ranges.specs.Update.{at}
 use Rattle.layout.specs.Layout.{Layout}
@@ -19,36 +17,41 @@ Book = ℕ → List ℕ
 abbrev pub finished : Layout → Book
 finished l i = replicate (l .W) 0
 
--- "A write answered done is completed: its W bytes go into its page. A write cut or refused changes nothing."
+-- "A write answered done is completed: its W bytes go into its page. A write cut or refused changes nothing." Here of any x that goes into
+-- the page of a function f: the bytes into the book, and into the note of which pages were written that this one was.
 unfoldable pub completed : {A : Type 0} → ℕ → A → Verdict → (ℕ → A) → ℕ → A
 completed page x done f = at page x f
 completed page x cut f = f
 completed page x refused f = f
 
-module _ (l : Layout) where
-  -- the page that a call writes: none of "any open, read, commit or collect"; "A later call that writes a page puts there, once done, what its
-  -- request says, worked out from the book. Any other later call changes nothing."
-  unfoldable pub pageWritten : Call → Book → Found
-  pageWritten (open-call lost a) book = Nothing
-  pageWritten (write-call lost page xs a) book = At page
-  pageWritten (commit-call lost j a) book = Nothing
-  pageWritten (collect-call lost c a) book = Nothing
-  pageWritten (add-call lost ticket a) book = whenFound (logEnd l book) (λ t. At (fallsIn l t)) Nothing
-  pageWritten (query-call q) book = Nothing
+-- what a call puts into the book once it is done: nothing, or into a page these bytes
+pub data Writes : Type 0 where
+  no-page : Writes
+  page-with : ℕ → List ℕ → Writes
 
-  -- and the bytes that it puts there
-  unfoldable pub bytesWritten : Call → Book → List ℕ
-  bytesWritten (open-call lost a) book = []
-  bytesWritten (write-call lost page xs a) book = xs
-  bytesWritten (commit-call lost j a) book = []
-  bytesWritten (collect-call lost c a) book = []
-  bytesWritten (add-call lost ticket a) book = whenFound (logEnd l book) (λ t. withTicket l book ticket t) []
-  bytesWritten (query-call q) book = []
+abbrev pub intoBook : Writes → Verdict → Book → Book
+intoBook no-page v book = book
+intoBook (page-with page xs) v book = completed page xs v book
+
+abbrev pub intoNote : Writes → Verdict → (ℕ → Bool) → ℕ → Bool
+intoNote no-page v written = written
+intoNote (page-with page xs) v written = completed page true v written
+
+module _ (l : Layout) where
+  -- "Nor does any open, read, commit or collect, however answered." "A later call that writes a page puts there, once done, what its request
+  -- says, worked out from the book. Any other later call changes nothing."
+  unfoldable pub writes : Call → Book → Writes
+  writes (open-call lost a) book = no-page
+  writes (write-call lost page xs a) book = page-with page xs
+  writes (commit-call lost j a) book = no-page
+  writes (collect-call lost c a) book = no-page
+  writes (add-call lost ticket a) book = whenFound (logEnd l book) (λ t. page-with (fallsIn l t) (withTicket l book ticket t)) no-page
+  writes (query-call q) book = no-page
 
   -- the book after a call that was answered so
   unfoldable pub booked : Call → Verdict → Book → Book
-  booked call v book = whenFound (pageWritten call book) (λ page. completed page (bytesWritten call book) v book) book
+  booked call v book = intoBook (writes call book) v book
 
-  -- and of which pages a write was completed, as the book cannot tell of zeros
+  -- and of which pages a write was completed, which the book cannot tell of zeros
   unfoldable pub noted : Call → Verdict → Book → (ℕ → Bool) → ℕ → Bool
-  noted call v book written = whenFound (pageWritten call book) (λ page. completed page true v written) written
+  noted call v book written = intoNote (writes call book) v written

@@ -79,7 +79,7 @@ abbrev pub findStandingOf : Finding → Standing
 findStandingOf (FindDone n x o) = x
 findStandingOf (FindRefused r) = Nothing
 
--- the same of a question
+-- the number of how it was got, as of a read
 abbrev pub findOriginOf : Finding → ℕ
 findOriginOf (FindDone n x o) = originNumber o
 findOriginOf (FindRefused r) = 0

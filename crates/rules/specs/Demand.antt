@@ -13,10 +13,10 @@ use Rattle.layout.specs.Images.{Images}
 use Rattle.steps.specs.declared.Counts.{Counts}
 use Rattle.rules.specs.declared.Refusal.the-variants.{Tickets}
 use Rattle.rules.specs.declared.Origin.{Origin}
-use Rattle.rules.specs.declared.Origin.the-variants.{Unwritten, Direct, Partial, Full}
 use Rattle.rules.specs.declared.Reading.the-variants.{Done as ReadDone}
 use Rattle.rules.specs.declared.Finding.{Finding}
 use Rattle.rules.specs.declared.Finding.the-variants.{Done as FindDone, Refused as FindRefused}
+use Rattle.rules.specs.Origins.{originBy}
 use Rattle.rules.specs.Log.{logSound, standing, logOrigin}
 use Rattle.rules.specs.Calls.{ReadOutcome, Call, lostChip, done, verdict, ended, formatCall, readCall, findCall}
 use Rattle.rules.specs.Book.{Book, finished, booked, noted}
@@ -64,33 +64,29 @@ module _ (l : Layout) where
         written = x .written;
       }
 
-  -- the read of page i that names `lost`, into a buffer of W bytes, is not refused, says that its page was got so, and the buffer equals
-  -- the book's page
-  abbrev pub ReadGives : ℕ → World → ℕ → Origin → Type 0
-  ReadGives lost x i o =
+  -- the read of page i of images s that names `lost`, into a buffer of W bytes, is not refused, says that its page was got so, and gives ys
+  abbrev pub ReadGives : Images → ℕ → ℕ → Origin → List ℕ → Type 0
+  ReadGives s lost i o ys =
       (buffer : List ℕ) → length buffer ≡ W
       → (n : Counts)
-      × (_≡_ {A = ReadOutcome} (readCall l (x .images) lost i buffer)
-      (record { answer = ReadDone n o; buffer = x .book i }))
+      × (_≡_ {A = ReadOutcome} (readCall l s lost i buffer) (record { answer = ReadDone n o; buffer = ys }))
 
   -- "the read of each logical page below N × S that names that chip, into a buffer of W bytes, is not refused, and the
   -- buffer equals the book's page"
   abbrev pub ReadsTheBook : ℕ → World → Type 0
-  ReadsTheBook lost x = (i : ℕ) → i < N * S → (o : Origin) × ReadGives lost x i o
+  ReadsTheBook lost x = (i : ℕ) → i < N * S → (o : Origin) × ReadGives (x .images) lost i o (x .book i)
 
-  -- document 02, 2, with that chip named: "never written" where no write of page i was completed; else "read directly", but where the chip
-  -- is its own "rebuilt", "through the partial parity" exactly where its bit is set
+  -- document 02, 2: page i was written if a write of it was completed; on the chip named as lost it is rebuilt, through the partial parity
+  -- if its bit is set
   abbrev pub originOwed : ℕ → World → ℕ → Origin
   originOwed lost x i =
-      cond (x .written i)
-      (cond (eqb (memberChip l (stripeOf l i) (memberOf l i)) lost)
-      (cond (bit (recordAt l (x .images .records) (stripeOf l i)) (memberOf l i)) Partial Full)
-      Direct)
-      Unwritten
+      originBy (x .written i)
+      (eqb (memberChip l (stripeOf l i) (memberOf l i)) lost)
+      (bit (recordAt l (x .images .records) (stripeOf l i)) (memberOf l i))
 
   -- each of those reads says so
   abbrev pub TellsTheOrigin : ℕ → World → Type 0
-  TellsTheOrigin lost x = (i : ℕ) → i < N * S → ReadGives lost x i (originOwed lost x i)
+  TellsTheOrigin lost x = (i : ℕ) → i < N * S → ReadGives (x .images) lost i (originOwed lost x i) (x .book i)
 
   -- document 02, 1, of the book's log, with these counts: "the one standing if it is a weight, else none"; refused "with 11" where a ticket
   -- "found before the log's end" breaks the rules. And document 02, 2: how its pages were got.

@@ -13,8 +13,9 @@ use Rattle.rules.specs.declared.Ticket.{Ticket}
 use Rattle.rules.specs.declared.Standing.{Standing}
 use Rattle.rules.specs.declared.Standing.the-variants.{Weighed, Nothing}
 use Rattle.rules.specs.declared.Origin.{Origin}
+use Rattle.rules.specs.declared.Origin.the-variants.{Unwritten}
 use Rattle.rules.specs.Read.{fetch}
-use Rattle.rules.specs.Origins.{lastOrigin}
+use Rattle.rules.specs.Origins.{greatestOrigin}
 use Rattle.rules.specs.Write.{writeSteps}
 use Rattle.rules.specs.Tickets.{ticketBytes, ticketOf, isEmpty, ticketSound, isFor, weightOf}
 
@@ -79,8 +80,7 @@ module _ (l : Layout) where
     -- order among its pages"
     unfoldable pub logOrigin : (ℕ → Origin) → ℕ → ℕ → Origin
     logOrigin o lot bag =
-        whenFound (latest lot bag) (λ t. carried (weightOf (ticketAt t)) (o (fallsIn t)) (lastOrigin logPages o))
-        (lastOrigin logPages o)
+        carried (standing lot bag) (whenFound (latest lot bag) (λ t. o (fallsIn t)) Unwritten) (greatestOrigin logPages o)
 
     -- "Adding one rewrites the page it falls in, other bytes kept": that page with the ticket at place t
     unfoldable pub withTicket : List ℕ → ℕ → List ℕ

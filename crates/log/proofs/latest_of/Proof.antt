@@ -7,8 +7,8 @@ use borrow.Author.Needs.{needs}
 use Rattle.rules.specs.declared.Origin.{Origin}
 use Rattle.rules.specs.declared.Origin.the-variants.{Unwritten, Direct, Partial, Full}
 use Rattle.rules.specs.declared.Ticket.{Ticket}
-use Rattle.rules.specs.Origins.{originNumber}
-use Rattle.log.specs.Walks.{heldBy, originNumbered}
+use Rattle.rules.specs.Origins.{originNumber, originNumbered}
+use Rattle.log.specs.Walks.{heldBy}
 use Rattle.log.proofs.latest_of.Statement.{statement}
 use Rattle.log.proofs.latest_of.Tie as tie
 

@@ -20,11 +20,11 @@ use Rattle.log.proofs.walk_log.Statement.{statement}
 use Rattle.log.proofs.walk_log.Tie as tie
 
 abbrev Inv-loop : tie.InvT-loop
-Inv-loop work₀ chips records slots g lost lot bag per pages latest₀ reads₀ last₀ at₀ work latest reads last at =
-    (length work ≡ g .w) × (at ≡ positionOf (layoutOf g) (at .page)) × Going (layoutOf g) (images chips records slots) lost lot bag latest last reads (at .page)
+Inv-loop work₀ chips records slots g lost lot bag per pages latest₀ reads₀ greatest₀ at₀ work latest reads greatest at =
+    (length work ≡ g .w) × (at ≡ positionOf (layoutOf g) (at .page)) × Going (layoutOf g) (images chips records slots) lost lot bag latest greatest reads (at .page)
 
 abbrev μ-loop : tie.MeasureT-loop
-μ-loop work₀ chips records slots g lost lot bag per pages latest₀ reads₀ last₀ at₀ work latest reads last at = pages - at .page
+μ-loop work₀ chips records slots g lost lot bag per pages latest₀ reads₀ greatest₀ at₀ work latest reads greatest at = pages - at .page
 
 -- what the function was called with
 abbrev layout : tie.Start Inv-loop μ-loop → Layout
@@ -67,7 +67,7 @@ look-at-page-requires c κs =
 looked : (k : tie.After-look-at-page Inv-loop μ-loop)
     → let o = k .before .before .before .before .loop in
     let s = k .before .before .before .before .before .before .before .before .before .before in
-    Next (layout s) (given s) (s .args .lost) (s .args .lot) (s .args .bag) (o .last) (o .reads) (o .at .page) (k .look-at-page .result)
+    Next (layout s) (given s) (s .args .lost) (s .args .lot) (s .args .bag) (o .greatest) (o .reads) (o .at .page) (k .look-at-page .result)
 looked k =
     let s = k .before .before .before .before .before .before .before .before .before .before in
     next (layout s) (given s) (s .args .lost) (s .args .lot) (s .args .bag) (k .before .before .before .before .loop .inv .2) (k .before .before .if1 .taken) (k .look-at-page .ensures)
@@ -82,7 +82,7 @@ returns-2 : tie.Need-returns-2 Inv-loop μ-loop
 returns-2 c =
     let k = c .before .before .before .before .before .before .before .before .before .before .before .before .before in
     let s = k .before .before .before .before .before .before .before .before .before .before in
-    let told = c .before .before .before .before .before .before .before .before .later .ensures in
+    let told = c .before .before .before .before .before .before .before .before .greater .ensures in
     walk-ended (layout s) (given s) (s .args .lost) (s .args .lot) (s .args .bag) (inside s) (looked k)
     (rw (told, per-page s) at (c .whole .ensures)) (not-false _ (c .before .before .before .before .before .if2 .left)) (rw (per-page s) at (c .before .before .before .if3 .taken))
 
@@ -95,7 +95,7 @@ loop-again c =
     let page = ap (λ (p : Position). p .page) is in (
       k .look-at-page .kept .0 ∙ o .inv .0,
       is ∙ ap (λ (i : ℕ). positionOf (layout s) i) (sym page),
-      rw page (goes-on (layout s) (given s) (s .args .lost) (s .args .lot) (s .args .bag) (looked k) (c .before .before .before .before .before .before .later .ensures) (rw (per-page s) at (c .before .if3 .left))),
+      rw page (goes-on (layout s) (given s) (s .args .lost) (s .args .lot) (s .args .bag) (looked k) (c .before .before .before .before .before .before .greater .ensures) (rw (per-page s) at (c .before .if3 .left))),
     )
 
 returns-3 : tie.Need-returns-3 Inv-loop μ-loop

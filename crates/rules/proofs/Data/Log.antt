@@ -21,17 +21,17 @@ use Rattle.layout.proofs.Limits.{Within}
 use Rattle.layout.proofs.Rotations.{stripe-fits, member-fits, page-chip-fits}
 use Rattle.rules.specs.declared.Origin.{Origin}
 use Rattle.rules.specs.Fetch.{Fetched}
-use Rattle.rules.specs.Origins.{lastOrigin}
+use Rattle.rules.specs.Origins.{greatestOrigin}
 use Rattle.rules.specs.Tickets.{ticketBytes, ticketOf, isEmpty, ticketSound, isFor, weightOf}
 use Rattle.rules.specs.Log.{perPage, places, fallsIn, bytesAt, ticketAt, logEnd, logLength, logSound, latest, standing, logPages, logOrigin, withTicket, contents}
 use Rattle.rules.proofs.Soundness.Statements.{Sound, sound-member}
 use Rattle.rules.proofs.Data.Contents.{length-bytes, pages-whole}
 use Rattle.rules.proofs.Data.Rebuild.{fetch-unwritten, fetch-direct}
 
-last-origin-cong : (n : ℕ) (o p : ℕ → Origin) → ((i : ℕ) → i < n → o i ≡ p i) → lastOrigin n o ≡ lastOrigin n p
-unfolding lastOrigin
-last-origin-cong zero o p h = refl
-last-origin-cong (suc n) o p h = rw (last-origin-cong n o p (λ i b. h i (le-step b)), h n (lt-suc-self n))
+greatest-cong : (n : ℕ) (o p : ℕ → Origin) → ((i : ℕ) → i < n → o i ≡ p i) → greatestOrigin n o ≡ greatestOrigin n p
+unfolding greatestOrigin
+greatest-cong zero o p h = refl
+greatest-cong (suc n) o p h = rw (greatest-cong n o p (λ i b. h i (le-step b)), h n (lt-suc-self n))
 
 module _ (l : Layout) where
   open Layout l using (N, W, S)
@@ -115,16 +115,14 @@ module _ (l : Layout) where
 
       -- and so is how it was got, where each page was got alike
       module _ (o p : ℕ → Origin) (told : (i : ℕ) → i < N * S → o i ≡ p i) where
-        all-told : lastOrigin (logPages l f) o ≡ lastOrigin (logPages l g) p
-        all-told = rw pages-same (last-origin-cong (logPages l g) o p (λ i h. told i (lt-of-lt-of-le h (pages-most g))))
+        all-told : greatestOrigin (logPages l f) o ≡ greatestOrigin (logPages l g) p
+        all-told = rw pages-same (greatest-cong (logPages l g) o p (λ i h. told i (lt-of-lt-of-le h (pages-most g))))
 
         pub origin-same : (lot bag : ℕ) → logOrigin l f o lot bag ≡ logOrigin l g p lot bag
         unfolding logOrigin whenFound
         origin-same lot bag = by-found (latest l g lot bag)
-            (λ t e.
-            let fits = latest-fits g lot bag t e in
-            rw (latest-same lot bag, e, bytes-same t fits, told (fallsIn l t) (page-fits t fits), all-told))
-            (λ e. rw (latest-same lot bag, e, all-told))
+            (λ t e. rw (standing-same lot bag, latest-same lot bag, e, told (fallsIn l t) (page-fits t (latest-fits g lot bag t e)), all-told))
+            (λ e. rw (standing-same lot bag, latest-same lot bag, e, all-told))
 
     -- ---- a ticket put into its page
 

@@ -3,7 +3,7 @@ use Prim.Native.Nat.{ℕ, _*_, _<_}
 use native.Mathlib.Decide.{ℕ-discrete}
 use mathlib.Core.Path.{_≡_, refl, sym, ap, _∙_}
 use mathlib.Core.Logic.{_≢_}
-use mathlib.Core.Bool.{cond}
+use mathlib.Core.Bool.{not}
 use mathlib.Core.List.{List}
 use lib.Dec.{eqb}
 use borrow.Author.Tests.{eq-eqb, ne-eqb}
@@ -19,9 +19,9 @@ use Rattle.layout.proofs.Limits.{Within}
 use Rattle.layout.proofs.Rotations.{member-chip-other, other-member-chip, member-chip-fits, stripe-fits, member-fits}
 use Rattle.rules.specs.declared.Role.{Role}
 use Rattle.rules.specs.declared.Role.the-variants.{Current, Old, Parity}
-use Rattle.rules.specs.declared.Origin.the-variants.{Unwritten, Direct, Partial, Full}
 use Rattle.rules.specs.Fetch.{Fetched, itself, membersFeed, gathered, chipIn, numberIn, underParity, othersUnderParity, othersInside, throughPartial, throughParity, parityAnew, rebuilt, fetchRole, fetchIn}
 use Rattle.rules.specs.Read.{unwritten, fetchMember, fetch}
+use Rattle.rules.specs.Origins.{originBy}
 use Rattle.rules.proofs.Soundness.Statements.{Sound}
 use Rattle.rules.proofs.Data.Contents.{Data, pages-whole}
 use Rattle.rules.proofs.Data.Feeds.{page-there}
@@ -131,8 +131,8 @@ module _ (l : Layout) where
 
   -- how a page is got
   pub fetch-origin : (s : Images) (lost i : ℕ) → fetch l s lost i .origin
-      ≡ cond (isNone l (recordAt l (s .records) (stripeOf l i) .current (memberOf l i))) Unwritten
-      (cond (eqb (memberChip l (stripeOf l i) (memberOf l i)) lost) (cond (bit (recordAt l (s .records) (stripeOf l i)) (memberOf l i)) Partial Full) Direct)
+      ≡ originBy (not (isNone l (recordAt l (s .records) (stripeOf l i) .current (memberOf l i)))) (eqb (memberChip l (stripeOf l i) (memberOf l i)) lost)
+      (bit (recordAt l (s .records) (stripeOf l i)) (memberOf l i))
   unfolding fetch fetchMember fetchIn fetchRole itself throughPartial throughParity
   fetch-origin s lost i =
       let r = recordAt l (s .records) (stripeOf l i) in

@@ -12,7 +12,7 @@ use Rattle.layout.specs.Layout.{Layout}
 use Rattle.layout.specs.Rotation.{stripeOf}
 use Rattle.layout.specs.Images.{Images}
 use Rattle.steps.specs.declared.Counts.{Counts}
-use Rattle.steps.specs.Steps.{Step, noCounts, made, isCut, applyAll, reading}
+use Rattle.steps.specs.Steps.{Step, noCounts, isCut, reading}
 use Rattle.steps.proofs.Prefixes.{Every, every-nil, Closes}
 use Rattle.rules.specs.declared.Check.{Check}
 use Rattle.rules.specs.declared.Check.the-variants.{Passed, Failed}
@@ -23,7 +23,7 @@ use Rattle.rules.specs.Commit.{commitSteps}
 use Rattle.rules.specs.Write.{writeSteps}
 use Rattle.rules.specs.Log.{fallsIn, logEnd, withTicket, contents, logReads, addSteps}
 use Rattle.rules.specs.Calls.{run, outcome, openCall, writeCall, commitCall, collectCall, addCall, Call, open-call, write-call, commit-call, collect-call, add-call, query-call, verdict, ended}
-use Rattle.rules.specs.Book.{Book, completed, pageWritten, bytesWritten, booked, noted}
+use Rattle.rules.specs.Book.{Book, completed, writes, booked, noted}
 use Rattle.rules.specs.Demand.{World, called}
 use Rattle.rules.proofs.Soundness.Statements.{Usable}
 use Rattle.rules.proofs.Soundness.Accepted.{write-accepted, commit-accepted, collect-accepted, add-accepted}
@@ -62,7 +62,7 @@ module _ (l : Layout) where
 
     add-inv : (a : ℕ) → Inv l (addCall l s lost ticket a .images) (booked l (add-call lost ticket a) (verdict (addCall l s lost ticket a .answer)) book)
         (noted l (add-call lost ticket a) (verdict (addCall l s lost ticket a .answer)) book written)
-    unfolding pageWritten bytesWritten booked noted addCall addSteps whenFound
+    unfolding writes booked noted addCall addSteps whenFound
     add-inv a = by-found (logEnd l book)
         (λ t end.
         rw end
@@ -77,7 +77,7 @@ module _ (l : Layout) where
 
   pub call-inv : Usable l → (call : Call) (x : World) → Inv l (x .images) (x .book) (x .written)
       → Inv l (called l call x .images) (called l call x .book) (called l call x .written)
-  unfolding called ended pageWritten bytesWritten booked noted whenFound openCall writeCall commitCall collectCall
+  unfolding called ended writes booked noted openCall writeCall commitCall collectCall
   call-inv u (open-call lost a) x f =
       outcome-inv (checked (imagesRows l (x .images) lost)) noCounts a (openSteps l lost) (x .images) f (λ passed. open-every l u (x .images) (f .sound) lost)
   call-inv u (write-call lost page xs a) x f =

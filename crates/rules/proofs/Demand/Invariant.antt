@@ -1,8 +1,8 @@
 -- What holds of the images and the book from a finished format on, whatever is called and wherever it is cut.
 use Prim.Native.Nat.{ℕ, _*_, _<_}
 use native.Mathlib.Omega.{arith}
-use mathlib.Core.Path.{_≡_, sym, ap, _∙_}
-use mathlib.Core.Bool.{Bool, true, false, cond, true≢false}
+use mathlib.Core.Path.{_≡_, refl, sym, ap, _∙_}
+use mathlib.Core.Bool.{Bool, true, false, not, cond, true≢false}
 use mathlib.Core.List.{List}
 use borrow.Author.Tests.{ne-eqb}
 use Rattle.ranges.specs.Update.{at}
@@ -21,8 +21,8 @@ use Rattle.rules.specs.Refusals.{lostNamed}
 use Rattle.rules.specs.Fetch.{Fetched, underParity}
 use Rattle.rules.specs.Read.{unwritten, fetch}
 use Rattle.rules.specs.Origins.{originNumber}
-use Rattle.rules.specs.Calls.{readCall}
-use Rattle.rules.specs.Book.{Book, finished}
+use Rattle.rules.specs.Calls.{cut, refused, readCall}
+use Rattle.rules.specs.Book.{Book, finished, completed, Writes, no-page, page-with, intoBook, intoNote}
 use Rattle.rules.specs.Demand.{World, originOwed, TellsTheOrigin}
 use Rattle.rules.proofs.Soundness.Statements.{Usable, SoundBut, Sound}
 use Rattle.rules.proofs.Soundness.Accepted.{read-passes}
@@ -38,8 +38,19 @@ use Rattle.rules.specs.Sound.{isLost}
 abbrev pub whenWritten : Bool → Origin
 whenWritten written = cond written Direct Unwritten
 
+-- a call that is cut or refused changes neither the book nor the note
+pub cut-keeps : (x : Writes) (book : Book) (written : ℕ → Bool) → (intoBook x cut book ≡ book) × (intoNote x cut written ≡ written)
+unfolding completed
+cut-keeps no-page book written = (refl, refl)
+cut-keeps (page-with page xs) book written = (refl, refl)
+
+pub refused-keeps : (x : Writes) (book : Book) (written : ℕ → Bool) → (intoBook x refused book ≡ book) × (intoNote x refused written ≡ written)
+unfolding completed
+refused-keeps no-page book written = (refl, refl)
+refused-keeps (page-with page xs) book written = (refl, refl)
+
 module _ (l : Layout) where
-  open Layout l using (N, W, S)
+  open Layout l using (N, S)
 
   -- the images are sound, the copies of a collection and both XOR groups hold, and every page reads as the book has it: off its chip where a
   -- write of it was completed, and else as one never written
@@ -115,7 +126,7 @@ module _ (l : Layout) where
     origin-any {s} {book} {written} f lost i inside =
         let some = page-chip-fits l (u .within) i in
         let no-chip = ne-eqb (memberChip l (stripeOf l i) (memberOf l i)) noChip (omega (arith, some, u .within .members-high)) in
-        let told : cond (isNone l (recordAt l (s .records) (stripeOf l i) .current (memberOf l i))) Unwritten Direct ≡ whenWritten (written i)
+        let told : cond (not (isNone l (recordAt l (s .records) (stripeOf l i) .current (memberOf l i)))) Direct Unwritten ≡ whenWritten (written i)
         = rw (fetch-origin l s noChip i, no-chip) at (f .told i inside) in
         rw (fetch-origin l s lost i)
         (by-test (isNone l (recordAt l (s .records) (stripeOf l i) .current (memberOf l i)))

@@ -11,8 +11,6 @@ use lib.Dec.{eqb}
 use borrow.Author.Tests.{le-leb, eqb-false}
 use Rattle.bytes.specs.Units.{unit, unitPut}
 use Rattle.bytes.proofs.Units.{unit-other, length-unitPut}
-use Rattle.ranges.specs.Look.{whenFound}
-use Rattle.ranges.proofs.Looks.{when-same}
 use Rattle.ranges.proofs.Tests.{or-right}
 use Rattle.layout.specs.Layout.{Layout, noChip, pages, pageBytes, chipBytes}
 use Rattle.layout.specs.Page.{Page, pageOf, pageAt}
@@ -24,13 +22,13 @@ use Rattle.rules.specs.declared.Check.the-variants.{Passed, Failed}
 use Rattle.rules.specs.Refusals.{lostNamed, checked, imagesRows, writeRows, commitRows, collectRows, addRows}
 use Rattle.rules.specs.Open.{openSteps}
 use Rattle.rules.specs.Calls.{run, outcome, openCall, writeCall, commitCall, collectCall, addCall, Call, open-call, write-call, commit-call, collect-call, add-call, query-call, lostChip, ended}
-use Rattle.rules.specs.Book.{completed, pageWritten, bytesWritten, booked, noted}
+use Rattle.rules.specs.Book.{completed, writes, booked, noted}
 use Rattle.rules.specs.Demand.{World, called, chipTaken, TellsTheOrigin}
 use Rattle.rules.proofs.Soundness.Statements.{Usable, SoundBut, sound-but}
 use Rattle.rules.proofs.Soundness.Accepted.{write-accepted, commit-accepted, collect-accepted, add-accepted, lost-refused}
 use Rattle.rules.proofs.Data.Rebuild.{fetch-elsewhere}
 use Rattle.rules.proofs.Lists.EachCall.{open-lost}
-use Rattle.rules.proofs.Demand.Invariant.{Inv, reads-book}
+use Rattle.rules.proofs.Demand.Invariant.{Inv, refused-keeps, reads-book}
 use Rattle.rules.specs.Sound.{isLost}
 
 module _ (l : Layout) where
@@ -101,7 +99,7 @@ module _ (l : Layout) where
 
     -- of every kind of call
     pub call-stays : (call : Call) → lostChip call ≡ c → (x : World) → called l call x ≡ x
-    unfolding called ended completed pageWritten bytesWritten booked noted whenFound openCall writeCall commitCall collectCall addCall
+    unfolding called ended completed writes booked noted openCall writeCall commitCall collectCall addCall
     call-stays (open-call lost a) e x = rw (e, open-stays (x .images) a (checked (imagesRows l (x .images) c)))
     call-stays (write-call lost page xs a) e x =
         let (r, refused) = lost-refused c (writeRows l (x .images) c page xs) not-none (λ h. write-accepted l (x .images) c page xs h .0) in rw (e, refused)
@@ -111,5 +109,6 @@ module _ (l : Layout) where
         let (r, refused) = lost-refused c (collectRows l (x .images) c d) not-none (λ h. collect-accepted l (x .images) c d h .0) in rw (e, refused)
     call-stays (add-call lost ticket a) e x =
         let (r, refused) = lost-refused c (addRows l (x .images) c ticket) not-none (λ h. add-accepted l (x .images) c ticket h .0) in
-        rw (e, refused, when-same (pageWritten l (add-call c ticket a) (x .book)) (x .book), when-same (pageWritten l (add-call c ticket a) (x .book)) (x .written))
+        let kept = refused-keeps (writes l (add-call c ticket a) (x .book)) (x .book) (x .written) in
+        rw (e, refused, kept .0, kept .1)
     call-stays (query-call q) e x = refl

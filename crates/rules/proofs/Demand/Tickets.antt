@@ -11,7 +11,7 @@ use lib.ListN.{length, replicate, length-replicate}
 use Rattle.ranges.specs.declared.Found.the-variants.{At}
 use Rattle.ranges.specs.Look.{whenFound}
 use Rattle.ranges.specs.Update.{at}
-use Rattle.ranges.proofs.Looks.{by-test, both, when-same}
+use Rattle.ranges.proofs.Looks.{by-test, both}
 use Rattle.ranges.proofs.Updates.{at-other}
 use Rattle.layout.specs.Layout.{Layout, noChip, chipBytes}
 use Rattle.layout.specs.Images.{Images}
@@ -30,7 +30,7 @@ use Rattle.rules.specs.Tickets.{ticketBytes, ticketOf, ticketSound}
 use Rattle.rules.specs.Log.{fallsIn, bytesAt, logEnd, logSound, standing, logOrigin, withTicket, contents, origins, logReads, addSteps}
 use Rattle.rules.specs.Refusals.{checked, imagesRows, pageRows, logRow, readRows, findRows, addRows}
 use Rattle.rules.specs.Calls.{ReadOutcome, readCall, findCall, addCall, Call, open-call, write-call, commit-call, collect-call, add-call, query-call, Verdict, done, cut, refused, outcome, verdict, ended}
-use Rattle.rules.specs.Book.{Book, completed, pageWritten, bytesWritten, booked, noted}
+use Rattle.rules.specs.Book.{Book, completed, writes, booked, noted}
 use Rattle.rules.specs.Demand.{World, called, calledAll, chipTaken, allName, originOwed, TellsTheOrigin, FindsTheBook, Finished, start, AfterBothLists}
 use Rattle.rules.proofs.Soundness.Statements.{Usable}
 use Rattle.rules.proofs.Soundness.Table.{by-check, below-passed, both-passed}
@@ -38,7 +38,7 @@ use Rattle.rules.proofs.Soundness.Accepted.{add-accepted}
 use Rattle.rules.proofs.Data.Log.{SamePages, end-fits, page-fits, end-same, sound-same, standing-same, origin-same, with-bytes, contents-whole}
 use Rattle.rules.proofs.Data.NewTicket.{ClearBehind, Grown, grown}
 use Rattle.rules.proofs.Lists.CutRule.{verdictNumber}
-use Rattle.rules.proofs.Demand.Invariant.{Inv}
+use Rattle.rules.proofs.Demand.Invariant.{Inv, cut-keeps, refused-keeps}
 use Rattle.rules.proofs.Demand.Alive.{call-inv}
 use Rattle.rules.proofs.Demand.Taken.{call-stays}
 use Rattle.rules.proofs.Demand.Events.{usable, start-holds, first-holds, owed-too, origins-told}
@@ -68,7 +68,7 @@ module _ (l : Layout) where
   afterAdd x lost ticket a = called l (add-call lost ticket a) x
 
   -- "a cut addition leaves the log as it was, whichever chip dies later": what is found after it, with a chip taken and calls that name it, is
-  -- what the book had before it
+  -- what the book had before it; how its pages are got is told by the records, in which a commit that the addition owed may have been made
   abbrev pub LeavesTheLog : Type 0
   LeavesTheLog =
       (f : Finished l) (first : List Call) (lost : ℕ) (ticket : List ℕ) (a : ℕ) → addVerdict (reached f first) lost ticket a ≢ done
@@ -87,7 +87,7 @@ module _ (l : Layout) where
       × (findCall l (x .images) lost lot bag ≡ FindDone n (standing l (x .book) lot bag) (logOrigin l (x .book) (originOwed l lost x) lot bag))
 
   pub record TicketsKept : Type 0 where
-    -- a question is answered from the book's log, with no chip dead or any one
+    -- a question is answered from the book's log and says how it was got, with no chip dead or any one
     pub finds : AfterBothLists l (FindsTheBook l)
     -- an addition that is done puts its ticket at the end of the book's log
     pub adds : (f : Finished l) (first : List Call) (lost : ℕ) (ticket : List ℕ) (a : ℕ) → addVerdict (reached f first) lost ticket a ≡ done
@@ -183,7 +183,7 @@ module _ (l : Layout) where
 
   add-done : Within l → (lost : ℕ) (ticket : List ℕ) (a : ℕ) (x : World) → Inv l (x .images) (x .book) (x .written)
       → addVerdict x lost ticket a ≡ done → Added ticket (x .book) (afterAdd x lost ticket a .book)
-  unfolding called ended addCall pageWritten bytesWritten booked completed whenFound
+  unfolding called ended addCall writes booked completed whenFound
   add-done w lost ticket a x f e =
       let s = x .images in
       let passed = done-passed (checked (addRows l s lost ticket)) (reading (logReads l s lost)) a (addSteps l lost ticket) s e in
@@ -197,10 +197,10 @@ module _ (l : Layout) where
 
   -- a call that is cut or refused
   not-done : (call : Call) (v : Verdict) → v ≢ done → (book : Book) (written : ℕ → Bool) → (booked l call v book ≡ book) × (noted l call v book written ≡ written)
-  unfolding booked noted completed
+  unfolding booked noted
   not-done call done d book written = absurd (d refl)
-  not-done call cut d book written = (when-same (pageWritten l call book) book, when-same (pageWritten l call book) written)
-  not-done call refused d book written = (when-same (pageWritten l call book) book, when-same (pageWritten l call book) written)
+  not-done call cut d book written = cut-keeps (writes l call book) book written
+  not-done call refused d book written = refused-keeps (writes l call book) book written
 
   add-keeps : (x : World) (lost : ℕ) (ticket : List ℕ) (a : ℕ) → addVerdict x lost ticket a ≢ done
       → (afterAdd x lost ticket a .book ≡ x .book) × (afterAdd x lost ticket a .written ≡ x .written)
@@ -220,7 +220,7 @@ module _ (l : Layout) where
 
   call-tidy : Within l → (call : Call) → isWrite call ≡ false → (x : World) → Inv l (x .images) (x .book) (x .written) → Tidy l (x .book)
       → Tidy l (called l call x .book)
-  unfolding called pageWritten booked whenFound
+  unfolding called writes booked
   call-tidy w (open-call lost a) ok x f tidy = tidy
   call-tidy w (write-call lost page xs a) ok x f tidy = both true refl ok
   call-tidy w (commit-call lost j a) ok x f tidy = tidy

@@ -26,7 +26,7 @@ use Rattle.rules.specs.Place.{openBlock, lowestCleanPage, placeOf}
 use Rattle.rules.specs.Room.{roomSteps, atPlace, placed}
 use Rattle.rules.specs.Fetch.{itself, gathered, underParity, othersUnderParity, othersInside, throughPartial, throughParity, parityAnew, fetchRole, fetchIn, membersFeed}
 use Rattle.rules.specs.Read.{fetchMember, fetch}
-use Rattle.rules.specs.Origins.{lastOrigin}
+use Rattle.rules.specs.Origins.{greatestOrigin}
 use Rattle.rules.specs.Tickets.{ticketOf, ticketSound}
 use Rattle.rules.specs.Log.{bytesAt, logEnd, logLength, logSound, logOpen, latest, standing, logPages, logOrigin, withTicket, logReads, addSteps}
 use Rattle.rules.specs.Refusals.{buffersRows, imagesRows, readRows, settledRows, writeRows, commitRows, collectRows, findRows, addRows}
@@ -35,5 +35,5 @@ use Rattle.rules.specs.Partial.{lowestFreeSlot, newPartial, written, slo
 use Rattle.rules.specs.Write.{commitOwed, owedSteps, writeMember, writeSteps}
 
 unfoldable pub computes : ℕ
-unfolding allBelow someBelow countBelow whenFound firstBelow lastBelow leastBelow sumBelow number digits part put unit unitPut at _⊕_ xorBelow collectionOf bytesOfCollection collectionAt chipsLength recordsLength slotsLength lengths slotAt none limits blankTail pageOf bytesOfPage pageAt bit row sixFrom recordOf bytesOfRecord emptyRecord recordAt parityChip memberChip memberOn applyAll andThen counted countedAll stepsBelow thenBelow programmed erased recorded apply cleanBlock fullBlock orderedBlock lowestCleanBlock run formatCall openCall writeCall commitCall collectCall readCall addCall findCall collectable namedCount victimOf copyFrom copySteps copyFeed collectBlock collectSteps setBits costOf cheapest newParity committed commitAt commitSteps formatSteps itself gathered mainNumber sideNumber roleOf kindOn memberByte names named repointed due moveFrom moveSteps finishOf finishSteps openSteps openBlock lowestCleanPage placeOf roomSteps atPlace placed underParity othersUnderParity othersInside throughPartial throughParity parityAnew fetchRole fetchIn membersFeed fetchMember fetch ticketOf ticketSound bytesAt logEnd logLength logSound logOpen latest standing logPages lastOrigin logOrigin withTicket logReads addSteps buffersRows imagesRows readRows settledRows writeRows commitRows collectRows findRows addRows memberSound recordSound collectionSound recordsSound stampedStripe phase1Sound twin phase2Sound chipSound sparesSound commitOwed owedSteps lowestFreeSlot newPartial written slotSteps writeAt writeMember writeSteps
+unfolding allBelow someBelow countBelow whenFound firstBelow lastBelow leastBelow sumBelow number digits part put unit unitPut at _⊕_ xorBelow collectionOf bytesOfCollection collectionAt chipsLength recordsLength slotsLength lengths slotAt none limits blankTail pageOf bytesOfPage pageAt bit row sixFrom recordOf bytesOfRecord emptyRecord recordAt parityChip memberChip memberOn applyAll andThen counted countedAll stepsBelow thenBelow programmed erased recorded apply cleanBlock fullBlock orderedBlock lowestCleanBlock run formatCall openCall writeCall commitCall collectCall readCall addCall findCall collectable namedCount victimOf copyFrom copySteps copyFeed collectBlock collectSteps setBits costOf cheapest newParity committed commitAt commitSteps formatSteps itself gathered mainNumber sideNumber roleOf kindOn memberByte names named repointed due moveFrom moveSteps finishOf finishSteps openSteps openBlock lowestCleanPage placeOf roomSteps atPlace placed underParity othersUnderParity othersInside throughPartial throughParity parityAnew fetchRole fetchIn membersFeed fetchMember fetch ticketOf ticketSound bytesAt logEnd logLength logSound logOpen latest standing logPages greatestOrigin logOrigin withTicket logReads addSteps buffersRows imagesRows readRows settledRows writeRows commitRows collectRows findRows addRows memberSound recordSound collectionSound recordsSound stampedStripe phase1Sound twin phase2Sound chipSound sparesSound commitOwed owedSteps lowestFreeSlot newPartial written slotSteps writeAt writeMember writeSteps
 computes = 0

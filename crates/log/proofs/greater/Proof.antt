@@ -1,12 +1,8 @@
--- The later of two origins by their numbers.
-use mathlib.Core.Path.{_≡_}
-use mathlib.Core.Bool.{true, false}
-use lib.Dec.{leb}
+-- The greater of two origins by their numbers.
 use borrow.Author.Needs.{needs}
 use borrow.Author.Tests.{le-leb, lt-leb}
-use Rattle.rules.specs.Origins.{originNumber}
-use Rattle.log.proofs.later.Statement.{statement}
-use Rattle.log.proofs.later.Tie as tie
+use Rattle.log.proofs.greater.Statement.{statement}
+use Rattle.log.proofs.greater.Tie as tie
 
 returns : tie.Need-returns
 returns c =
@@ -18,5 +14,5 @@ returns-2 c =
     let h = rw (c .before .before .origin-number .ensures, c .before .origin-number2 .ensures) at (c .if1 .left) in
     rw (lt-leb _ _ h)
 
-pub later-spec : {M : Type 1} → statement M
-later-spec = tie.close (tie.spec (λ c κs. search needs) (λ c κs. search needs) returns returns-2)
+pub greater-spec : {M : Type 1} → statement M
+greater-spec = tie.close (tie.spec (λ c κs. search needs) (λ c κs. search needs) returns returns-2)
