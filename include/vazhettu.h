@@ -170,8 +170,8 @@ struct vazhettu_report vazhettu_open(struct vazhettu_geometry g, uint8_t *chips,
  * or refused does not count; a page written with zeros is written.
  *
  * A page that reads as before keeps its bytes; a commit may turn the origin that it has with its chip named from
- * VAZHETTU_ORIGIN_PARTIAL to VAZHETTU_ORIGIN_FULL, also a commit that a write or an add makes first, even if that write
- * or add is then cut.
+ * VAZHETTU_ORIGIN_PARTIAL to VAZHETTU_ORIGIN_FULL, also a commit that a write or an add makes first, even if that
+ * write or add is then cut.
  */
 enum {
     /* The page was never written, and is zeros; also where its chip is lost. */

@@ -195,11 +195,13 @@ fn latest_of(page: &[u8], shown: Shown, origin: Origin, before: Latest) -> Lates
 {
     if shown.found {
         let t = ticket_in(page, shown.latest);
+        let kind = t.kind as u32;
+        let number = origin_number(origin) as u32;
         return Latest {
-            kind: t.kind as u32,
+            kind,
             gross: t.gross,
             tare: t.tare,
-            origin: origin_number(origin) as u32,
+            origin: number,
         };
     }
     before

@@ -1,7 +1,7 @@
 -- The latest ticket of the page, or the one before it.
-use Prim.Native.Nat.{_≤_}
+use Prim.Native.Nat.{ℕ, _≤_}
 use native.Mathlib.Omega.{arith}
-use mathlib.Core.Path.{_≡_, refl, ap}
+use mathlib.Core.Path.{_≡_, refl, ap, ap₂, _∙_}
 use lib.Dec.{lit≤}
 use borrow.Author.Needs.{needs}
 use Rattle.rules.specs.declared.Origin.{Origin}
@@ -19,14 +19,14 @@ numbered Direct = (lit≤ tt, refl)
 numbered Partial = (lit≤ tt, refl)
 numbered Full = (lit≤ tt, refl)
 
-small : tie.Need-cast-t9
+small : tie.Need-cast-number
 small c = search (needs, numbered (c .before .before .before .before .before .args .origin) .0)
 
 returns : tie.Need-returns
 returns c =
     let a = c .before .before .before .before .before .args in
-    rw (c .before .before .before .if1 .taken, c .origin-number .ensures, numbered (a .origin) .1)
-    (ap (λ (t : Ticket). heldBy t (a .origin)) (c .before .before .ticket-in .ensures))
+    let is = ap (λ (n : ℕ). originNumbered n) (c .origin-number .ensures) ∙ numbered (a .origin) .1 in
+    rw (c .before .before .before .if1 .taken) (ap₂ (λ (t : Ticket) (o : Origin). heldBy t o) (c .before .before .ticket-in .ensures) is)
 
 returns-2 : tie.Need-returns-2
 returns-2 c = rw (c .if1 .left)
