@@ -8,8 +8,8 @@ use Rattle.answers.specs.declared.ReadReport.{ReadReport}
 use Rattle.answers.specs.declared.FindReport.{FindReport}
 
 -- a number and counts
-abbrev pub reportOf : ℕ → Counts → Report
-reportOf status n =
+abbrev pub report_of : ℕ → Counts → Report
+report_of status n =
     record {
       status = status;
       reads = n.reads;
@@ -19,8 +19,8 @@ reportOf status n =
     }
 
 -- a number, counts and the number of how a page was got
-abbrev pub originReportOf : ℕ → Counts → ℕ → ReadReport
-originReportOf status n origin =
+abbrev pub origin_report_of : ℕ → Counts → ℕ → ReadReport
+origin_report_of status n origin =
     record {
       status = status;
       reads = n.reads;
@@ -31,30 +31,30 @@ originReportOf status n origin =
     }
 
 -- 1 where a weight stands, else 0
-abbrev pub standingNumber : Standing → ℕ
-standingNumber (Weighed w) = 1
-standingNumber Nothing = 0
+abbrev pub standing_number : Standing → ℕ
+standing_number (Weighed w) = 1
+standing_number Nothing = 0
 
 -- its grams, else 0
-abbrev pub grossGrams : Standing → ℕ
-grossGrams (Weighed w) = w.gross
-grossGrams Nothing = 0
+abbrev pub gross_grams : Standing → ℕ
+gross_grams (Weighed w) = w.gross
+gross_grams Nothing = 0
 
-abbrev pub tareGrams : Standing → ℕ
-tareGrams (Weighed w) = w.tare
-tareGrams Nothing = 0
+abbrev pub tare_grams : Standing → ℕ
+tare_grams (Weighed w) = w.tare
+tare_grams Nothing = 0
 
 -- a number, counts, what stands, and the number of how the log's pages were got
-abbrev pub standingReportOf : ℕ → Counts → Standing → ℕ → FindReport
-standingReportOf status n x origin =
+abbrev pub standing_report_of : ℕ → Counts → Standing → ℕ → FindReport
+standing_report_of status n x origin =
     record {
       status = status;
       reads = n.reads;
       programs = n.programs;
       erases = n.erases;
       stores = n.stores;
-      standing = standingNumber x;
-      gross = grossGrams x;
-      tare = tareGrams x;
+      standing = standing_number x;
+      gross = gross_grams x;
+      tare = tare_grams x;
       origin = origin;
     }

@@ -1,12 +1,12 @@
 //! What every call answers alike.
 
 ghost use Rattle.std.specs.Prelude.{◌≡◌, cond};
-ghost use Rattle.rules.specs.Refusals.{refusalNumber};
-ghost use Rattle.rules.specs.Origins.{originNumber};
-ghost use Rattle.steps.specs.Steps.{noCounts};
+ghost use Rattle.rules.specs.Refusals.{refusal_number};
+ghost use Rattle.rules.specs.Origins.{origin_number};
+ghost use Rattle.steps.specs.Steps.{no_counts};
 ghost use Rattle.rules.specs.declared.Answer.TheVariants.{Cut, Done};
 ghost use Rattle.rules.specs.declared.Standing.TheVariants.{Nothing};
-ghost use Rattle.answers.specs.Reports.{reportOf, originReportOf, standingReportOf};
+ghost use Rattle.answers.specs.Reports.{report_of, origin_report_of, standing_report_of};
 
 use rules::{Answer, Origin, Refusal, Standing};
 use steps::{Counts, Progress};
@@ -51,7 +51,7 @@ pub struct FindReport {
 
 // The number of a refusal in the table.
 pub fn refusal_number(r: Refusal) -> u64
-    ensures { result ≡ refusalNumber r }
+    ensures { result ≡ refusal_number r }
 {
     match r {
         Refusal::Geometry => 1,
@@ -71,7 +71,7 @@ pub fn refusal_number(r: Refusal) -> u64
 
 // The number of how a page was got.
 pub fn origin_number(o: Origin) -> u64
-    ensures { result ≡ originNumber o }
+    ensures { result ≡ origin_number o }
 {
     match o {
         Origin::Unwritten => 0,
@@ -95,7 +95,7 @@ pub fn answer(p: Progress) -> Answer
 
 // The counts of a refusal.
 fn no_counts() -> Counts
-    ensures { result ≡ noCounts }
+    ensures { result ≡ no_counts }
 {
     Counts {
         reads: 0,
@@ -107,7 +107,7 @@ fn no_counts() -> Counts
 
 // A report of an answer that has counts.
 pub fn with_counts(status: u64, c: Counts) -> Report
-    ensures { result ≡ reportOf status c }
+    ensures { result ≡ report_of status c }
 {
     Report {
         status,
@@ -120,14 +120,14 @@ pub fn with_counts(status: u64, c: Counts) -> Report
 
 // A report of a refusal.
 pub fn without_counts(r: Refusal) -> Report
-    ensures { result ≡ reportOf (refusalNumber r) noCounts }
+    ensures { result ≡ report_of (refusal_number r) no_counts }
 {
     with_counts(refusal_number(r), no_counts())
 }
 
 // A report of a read that has counts.
 pub fn with_origin(status: u64, counts: Counts, origin: u64) -> ReadReport
-    ensures { result ≡ originReportOf status counts origin }
+    ensures { result ≡ origin_report_of status counts origin }
 {
     ReadReport {
         status,
@@ -141,14 +141,14 @@ pub fn with_origin(status: u64, counts: Counts, origin: u64) -> ReadReport
 
 // A report of a read that is refused.
 pub fn without_origin(r: Refusal) -> ReadReport
-    ensures { result ≡ originReportOf (refusalNumber r) noCounts 0 }
+    ensures { result ≡ origin_report_of (refusal_number r) no_counts 0 }
 {
     with_origin(refusal_number(r), no_counts(), 0)
 }
 
 // A report of a question that has counts.
 pub fn with_standing(status: u64, counts: Counts, x: Standing, origin: u64) -> FindReport
-    ensures { result ≡ standingReportOf status counts x origin }
+    ensures { result ≡ standing_report_of status counts x origin }
 {
     let mut standing = 0;
     let mut gross = 0;
@@ -173,7 +173,7 @@ pub fn with_standing(status: u64, counts: Counts, x: Standing, origin: u64) -> F
 
 // A report of a question that is refused.
 pub fn without_standing(r: Refusal) -> FindReport
-    ensures { result ≡ standingReportOf (refusalNumber r) noCounts Nothing 0 }
+    ensures { result ≡ standing_report_of (refusal_number r) no_counts Nothing 0 }
 {
     with_standing(refusal_number(r), no_counts(), Standing::Nothing, 0)
 }

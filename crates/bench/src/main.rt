@@ -151,7 +151,7 @@ fn next_byte() -> u8 {
     if got < 1 { b'\n' } else { byte[0] }
 }
 
-// Takes the bytes of a line up to its newline, eleven at most: no command has as many (`command-short` of `commands`).
+// Takes the bytes of a line up to its newline, eleven at most: no command has as many (`command_short` of `commands`).
 fn next_line(line: &mut [u8; 11]) -> usize
     ensures { result ≤ 11 }
 {

@@ -11,83 +11,83 @@ use lib.Dec.{lit≤, ltb, leb}
 use borrow.Author.Tests.{eq-eqb, eqb-true}
 use Rattle.ranges.specs.declared.Found.{Found}
 use Rattle.ranges.specs.declared.Found.TheVariants.{At, Nothing}
-use Rattle.ranges.specs.Look.{whenFound}
+use Rattle.ranges.specs.Look.{when_found}
 use Rattle.layout.specs.declared.Geometry.{Geometry}
-use Rattle.layout.specs.Layout.{Layout, layout_of, noChip}
-use Rattle.layout.specs.Page.{pageAt}
-use Rattle.layout.specs.Record.{recordAt, hasSlot}
+use Rattle.layout.specs.Layout.{Layout, layout_of, no_chip}
+use Rattle.layout.specs.Page.{page_at}
+use Rattle.layout.specs.Record.{record_at, has_slot}
 use Rattle.layout.specs.Images.{Images}
-use Rattle.layout.proofs.Limits.{Within, places-most, blocks-most}
-use Rattle.layout.proofs.Rotations.{stripe-fits, member-fits}
+use Rattle.layout.proofs.Limits.{Within, places_most, blocks_most}
+use Rattle.layout.proofs.Rotations.{stripe_fits, member_fits}
 use Rattle.steps.specs.declared.Progress.{Progress}
-use Rattle.steps.specs.Steps.{noCounts}
+use Rattle.steps.specs.Steps.{no_counts}
 use Rattle.steps.specs.Allowance.{started, Sane, Ran}
-use Rattle.steps.proofs.Allowances.{ran-none}
+use Rattle.steps.proofs.Allowances.{ran_none}
 use Rattle.rules.specs.declared.Refusal.{Refusal}
 use Rattle.rules.specs.declared.Refusal.TheVariants.{Request, Work}
 use Rattle.rules.specs.declared.Check.{Check}
 use Rattle.rules.specs.declared.Check.TheVariants.{Passed, Failed}
 use Rattle.rules.specs.declared.Answer.TheVariants.{Refused}
 use Rattle.rules.specs.declared.Reading.TheVariants.{Done as ReadDone, Refused as ReadRefused}
-use Rattle.rules.specs.Open.{finishSteps, openSteps}
-use Rattle.rules.specs.Read.{fetchMember, fetch}
-use Rattle.rules.specs.Format.{formatSteps}
-use Rattle.rules.specs.Collect.{victimOf, collectBlock, collectSteps}
-use Rattle.collect.proofs.Rooms.{collect-found}
-use Rattle.rules.specs.Commit.{commitSteps}
-use Rattle.rules.specs.Write.{writeMember, writeSteps}
-use Rattle.rules.specs.Refusals.{Row, unless, checked, pageRows, chipSetRow, collectableOn, buffersRows, imagesRows, settledRows, readRows, writeRows, commitRows, collectRows}
-use Rattle.rules.specs.Calls.{Outcome, ReadOutcome, readInto, formatCall, openCall, readCall, writeCall, commitCall, collectCall}
-use Rattle.rules.proofs.Soundness.Table.{rows-passed, below-passed, below-failed, both-passed}
-use Rattle.rules.proofs.Soundness.Accepted.{write-accepted}
-use Rattle.rules.specs.Capacitor.{writeNeeds, openNeeds, StoresNeeded}
-use Rattle.rules.proofs.Lists.Lengths.{format-length, open-length}
-use Rattle.rules.proofs.Capacitor.{stores-needed}
-use Rattle.rules.proofs.Lists.EachCall.{open-lost}
+use Rattle.rules.specs.Open.{finish_steps, open_steps}
+use Rattle.rules.specs.Read.{fetch_member, fetch}
+use Rattle.rules.specs.Format.{format_steps}
+use Rattle.rules.specs.Collect.{victim_of, collect_block, collect_steps}
+use Rattle.collect.proofs.Rooms.{collect_found}
+use Rattle.rules.specs.Commit.{commit_steps}
+use Rattle.rules.specs.Write.{write_member, write_steps}
+use Rattle.rules.specs.Refusals.{Row, unless, checked, page_rows, chip_set_row, collectable_on, buffers_rows, images_rows, settled_rows, read_rows, write_rows, commit_rows, collect_rows}
+use Rattle.rules.specs.Calls.{Outcome, ReadOutcome, read_into, format_call, open_call, read_call, write_call, commit_call, collect_call}
+use Rattle.rules.proofs.Soundness.Table.{rows_passed, below_passed, below_failed, both_passed}
+use Rattle.rules.proofs.Soundness.Accepted.{write_accepted}
+use Rattle.rules.specs.Capacitor.{write_needs, open_needs, StoresNeeded}
+use Rattle.rules.proofs.Lists.Lengths.{format_length, open_length}
+use Rattle.rules.proofs.Capacitor.{stores_needed}
+use Rattle.rules.proofs.Lists.EachCall.{open_lost}
 use Rattle.rules.proofs.Lists.Answers.{answer_of, call-refused, call-ran}
 use Rattle.looks.specs.declared.Look.{Look}
 use Rattle.looks.specs.Looks.{below, look_of}
-use Rattle.looks.proofs.Passing.{rows-below, rows_told, PageReady, page-ready, Ready, ready}
+use Rattle.looks.proofs.Passing.{rows_below, rows_told, PageReady, page_ready, Ready, ready}
 use Rattle.rules.specs.declared.Origin.{Origin}
 
 -- ---- format
 
-format-short : (l : Layout) → Within l → length (formatSteps l) ≤ 2 ^ 59
-format-short l w =
-    let blocks : (l.N + 1) * l.B ≤ 7 * 65535 = mul-le-mul {n₂ = 7} {m₂ = 65535} (omega (arith, w.members-high)) (blocks-most l w) in
-    omega (arith, format-length l, w.stripes-high)
+format_short : (l : Layout) → Within l → length (format_steps l) ≤ 2 ^ 59
+format_short l w =
+    let blocks : (l.N + 1) * l.B ≤ 7 * 65535 = mul-le-mul {n₂ = 7} {m₂ = 65535} (omega (arith, w.members_high)) (blocks_most l w) in
+    omega (arith, format_length l, w.stripes_high)
 
 module _ (l : Layout) (s : Images) (a : ℕ) where
-  pub format-refused : (r : Refusal) → checked (buffersRows l s) ≡ Failed r → ◌≡◌ {A = Outcome} (record { answer = Refused r; images = s }) (formatCall l s a)
-  unfolding formatCall
-  format-refused r e = call-refused l noCounts s a (λ t. formatSteps l) (buffersRows l s) r e
+  pub format_refused : (r : Refusal) → checked (buffers_rows l s) ≡ Failed r → ◌≡◌ {A = Outcome} (record { answer = Refused r; images = s }) (format_call l s a)
+  unfolding format_call
+  format_refused r e = call-refused l no_counts s a (λ t. format_steps l) (buffers_rows l s) r e
 
-  pub format-ran : {p q : Progress} {t : Images} → Within l → checked (buffersRows l s) ≡ Passed → p ≡ started noCounts (min a (2 ^ 59))
-      → Ran l p (formatSteps l) q s t → ◌≡◌ {A = Outcome} (record { answer = answer_of q; images = t }) (formatCall l s a)
-  unfolding formatCall
-  format-ran w e begun h = call-ran l noCounts s a (λ t. formatSteps l) (buffersRows l s) (formatSteps l) e refl (format-short l w) begun h
+  pub format_ran : {p q : Progress} {t : Images} → Within l → checked (buffers_rows l s) ≡ Passed → p ≡ started no_counts (min a (2 ^ 59))
+      → Ran l p (format_steps l) q s t → ◌≡◌ {A = Outcome} (record { answer = answer_of q; images = t }) (format_call l s a)
+  unfolding format_call
+  format_ran w e begun h = call-ran l no_counts s a (λ t. format_steps l) (buffers_rows l s) (format_steps l) e refl (format_short l w) begun h
 
 -- ---- open
 
 module _ (l : Layout) (s : Images) (lost a : ℕ) where
-  pub open-refused : (r : Refusal) → checked (imagesRows l s lost) ≡ Failed r → ◌≡◌ {A = Outcome} (record { answer = Refused r; images = s }) (openCall l s lost a)
-  unfolding openCall
-  open-refused r e = call-refused l noCounts s a (openSteps l lost) (imagesRows l s lost) r e
+  pub open_refused : (r : Refusal) → checked (images_rows l s lost) ≡ Failed r → ◌≡◌ {A = Outcome} (record { answer = Refused r; images = s }) (open_call l s lost a)
+  unfolding open_call
+  open_refused r e = call-refused l no_counts s a (open_steps l lost) (images_rows l s lost) r e
 
   -- with a chip lost there is no store
-  pub open-nothing : {p : Progress} → checked (imagesRows l s lost) ≡ Passed → lost ≢ noChip → p ≡ started noCounts (min a (2 ^ 59)) → Sane p
-      → ◌≡◌ {A = Outcome} (record { answer = answer_of p; images = s }) (openCall l s lost a)
-  unfolding openCall
-  open-nothing {p} e d begun sane = call-ran l noCounts s a (openSteps l lost) (imagesRows l s lost) [] e (open-lost l s lost d) (omega arith) begun (ran-none l p s sane)
+  pub open_nothing : {p : Progress} → checked (images_rows l s lost) ≡ Passed → lost ≢ no_chip → p ≡ started no_counts (min a (2 ^ 59)) → Sane p
+      → ◌≡◌ {A = Outcome} (record { answer = answer_of p; images = s }) (open_call l s lost a)
+  unfolding open_call
+  open_nothing {p} e d begun sane = call-ran l no_counts s a (open_steps l lost) (images_rows l s lost) [] e (open_lost l s lost d) (omega arith) begun (ran_none l p s sane)
 
   -- else it is the end of the collection
-  pub open_finished : {p q : Progress} {t : Images} → Within l → checked (imagesRows l s lost) ≡ Passed → lost ≡ noChip → p ≡ started noCounts (min a (2 ^ 59))
-      → Ran l p (finishSteps l s) q s t → ◌≡◌ {A = Outcome} (record { answer = answer_of q; images = t }) (openCall l s lost a)
-  unfolding openCall openSteps
-  open_finished w e none-lost begun h =
-      let named = eq-eqb lost noChip none-lost in
-      let most : length (finishSteps l s) ≤ openNeeds l = rw named at (open-length l lost s) in
-      call-ran l noCounts s a (openSteps l lost) (imagesRows l s lost) (finishSteps l s) e (rw named) (omega (arith, most, places-most l w)) begun h
+  pub open_finished : {p q : Progress} {t : Images} → Within l → checked (images_rows l s lost) ≡ Passed → lost ≡ no_chip → p ≡ started no_counts (min a (2 ^ 59))
+      → Ran l p (finish_steps l s) q s t → ◌≡◌ {A = Outcome} (record { answer = answer_of q; images = t }) (open_call l s lost a)
+  unfolding open_call open_steps
+  open_finished w e none_lost begun h =
+      let named = eq-eqb lost no_chip none_lost in
+      let most : length (finish_steps l s) ≤ open_needs l = rw named at (open_length l lost s) in
+      call-ran l no_counts s a (open_steps l lost) (images_rows l s lost) (finish_steps l s) e (rw named) (omega (arith, most, places_most l w)) begun h
 
 -- a read that passes its rows
 pub record ReadReady (g : Geometry) (s : Images) (page : ℕ) (buffer : List ℕ) : Type 0 where
@@ -95,16 +95,16 @@ pub record ReadReady (g : Geometry) (s : Images) (page : ℕ) (buffer : List ℕ
   pub whole : length buffer ≡ g.w
 
 -- no list of these calls is as long as the most that the code counts down from
-short : (l : Layout) (k : ℕ) → k ≤ writeNeeds l → l.K ≤ 128 → k ≤ 2 ^ 59
+short : (l : Layout) (k : ℕ) → k ≤ write_needs l → l.K ≤ 128 → k ≤ 2 ^ 59
 short l k h low = omega arith
 
 -- the rows of commit and collect below rows 1 to 6, up to row 9
-abbrev pub freeRows : Bool → ℕ → List Row
-freeRows fits lost = (fits, Request) ∷ chipSetRow lost ∷ []
+abbrev pub free_rows : Bool → ℕ → List Row
+free_rows fits lost = (fits, Request) ∷ chip_set_row lost ∷ []
 
 -- what a write relies on whose rows have passed
 pub record WriteReady (g : Geometry) (s : Images) (lost page : ℕ) (xs : List ℕ) (look : Look) : Type 0 where
-  pub rows : checked (writeRows (layout_of g) s lost page xs) ≡ Passed
+  pub rows : checked (write_rows (layout_of g) s lost page xs) ≡ Passed
   pub ready : Ready g s look
   pub stripe : page / g.n < g.s
   pub member : page % g.n < g.n
@@ -112,7 +112,7 @@ pub record WriteReady (g : Geometry) (s : Images) (lost page : ℕ) (xs : List �
 
 -- and a commit or a collect whose rows up to row 9 have passed
 pub record FreeReady (g : Geometry) (s : Images) (lost : ℕ) (fits : Bool) (look : Look) : Type 0 where
-  pub rows : checked (settledRows (layout_of g) s lost ++ freeRows fits lost) ≡ Passed
+  pub rows : checked (settled_rows (layout_of g) s lost ++ free_rows fits lost) ≡ Passed
   pub ready : Ready g s look
   pub fit : fits ≡ true
 
@@ -122,141 +122,141 @@ module _ (g : Geometry) (s : Images) (lost : ℕ) where
 
   -- the stores that a call needs that has passed its rows
   needed : StoresNeeded l
-  needed = stores-needed l (lit≤ tt) (lit≤ tt)
+  needed = stores_needed l (lit≤ tt) (lit≤ tt)
 
   -- ---- read
 
   module _ (page : ℕ) (buffer : List ℕ) where
-    pub read_told : {look : Look} {k : Check} → look ≡ look_of l s lost (checked (imagesRows l s lost))
-        → k ≡ below look.check (checked (pageRows l page (length buffer))) → k ≡ checked (readRows l s lost page buffer)
-    unfolding readRows
-    read_told seen e = rows_told l s lost (imagesRows l s lost) (pageRows l page (length buffer)) seen e
+    pub read_told : {look : Look} {k : Check} → look ≡ look_of l s lost (checked (images_rows l s lost))
+        → k ≡ below look.check (checked (page_rows l page (length buffer))) → k ≡ checked (read_rows l s lost page buffer)
+    unfolding read_rows
+    read_told seen e = rows_told l s lost (images_rows l s lost) (page_rows l page (length buffer)) seen e
 
-    pub read-ready : checked (readRows l s lost page buffer) ≡ Passed → ReadReady g s page buffer
-    unfolding readRows
-    read-ready e =
-        let rest = (both-passed (imagesRows l s lost) (pageRows l page (length buffer)) e).1 in
+    pub read_ready : checked (read_rows l s lost page buffer) ≡ Passed → ReadReady g s page buffer
+    unfolding read_rows
+    read_ready e =
+        let rest = (both_passed (images_rows l s lost) (page_rows l page (length buffer)) e).1 in
         record {
-          ready = page-ready g s lost page _ e;
-          whole = eqb-true (length buffer) g.w (rows-passed (pageRows l page (length buffer)) rest).1.0;
+          ready = page_ready g s lost page _ e;
+          whole = eqb-true (length buffer) g.w (rows_passed (page_rows l page (length buffer)) rest).1.0;
         }
 
-    pub read-refused : (r : Refusal) → checked (readRows l s lost page buffer) ≡ Failed r
-        → ◌≡◌ {A = ReadOutcome} (record { answer = ReadRefused r; buffer = buffer }) (readCall l s lost page buffer)
-    unfolding readCall
-    read-refused r e = rw e
+    pub read_refused : (r : Refusal) → checked (read_rows l s lost page buffer) ≡ Failed r
+        → ◌≡◌ {A = ReadOutcome} (record { answer = ReadRefused r; buffer = buffer }) (read_call l s lost page buffer)
+    unfolding read_call
+    read_refused r e = rw e
 
-    pub read_done : {bytes : List ℕ} {reads : ℕ} {origin : Origin} → checked (readRows l s lost page buffer) ≡ Passed
-        → record { bytes = bytes; reads = reads; origin = origin } ≡ fetchMember l s lost (page / g.n) (page % g.n)
-        → ◌≡◌ {A = ReadOutcome} (record { answer = ReadDone (record { reads = reads; programs = 0; erases = 0; stores = 0 }) origin; buffer = bytes }) (readCall l s lost page buffer)
-    unfolding readCall fetch
-    read_done e f = rw e (ap readInto f)
+    pub read_done : {bytes : List ℕ} {reads : ℕ} {origin : Origin} → checked (read_rows l s lost page buffer) ≡ Passed
+        → record { bytes = bytes; reads = reads; origin = origin } ≡ fetch_member l s lost (page / g.n) (page % g.n)
+        → ◌≡◌ {A = ReadOutcome} (record { answer = ReadDone (record { reads = reads; programs = 0; erases = 0; stores = 0 }) origin; buffer = bytes }) (read_call l s lost page buffer)
+    unfolding read_call fetch
+    read_done e f = rw e (ap read_into f)
 
   -- ---- write, commit and collect
 
   module _ (page : ℕ) (xs : List ℕ) where
-    pub write-told : {look : Look} {k more : Check} → look ≡ look_of l s lost (checked (settledRows l s lost))
-        → k ≡ below look.check (checked (pageRows l page (length xs))) → more ≡ below k (checked (chipSetRow lost ∷ [])) → more ≡ checked (writeRows l s lost page xs)
-    unfolding writeRows
-    write-told seen e f =
-        f ∙ rw (rows_told l s lost (settledRows l s lost) (pageRows l page (length xs)) seen e)
-        (sym (rows-below (settledRows l s lost ++ pageRows l page (length xs)) (chipSetRow lost ∷ [])))
+    pub write_told : {look : Look} {k more : Check} → look ≡ look_of l s lost (checked (settled_rows l s lost))
+        → k ≡ below look.check (checked (page_rows l page (length xs))) → more ≡ below k (checked (chip_set_row lost ∷ [])) → more ≡ checked (write_rows l s lost page xs)
+    unfolding write_rows
+    write_told seen e f =
+        f ∙ rw (rows_told l s lost (settled_rows l s lost) (page_rows l page (length xs)) seen e)
+        (sym (rows_below (settled_rows l s lost ++ page_rows l page (length xs)) (chip_set_row lost ∷ [])))
 
-    pub write-ready : {look : Look} {k : Check} → look ≡ look_of l s lost (checked (settledRows l s lost)) → k ≡ checked (writeRows l s lost page xs) → k ≡ Passed
+    pub write_ready : {look : Look} {k : Check} → look ≡ look_of l s lost (checked (settled_rows l s lost)) → k ≡ checked (write_rows l s lost page xs) → k ≡ Passed
         → WriteReady g s lost page xs look
-    unfolding writeRows
-    write-ready seen told passed =
+    unfolding write_rows
+    write_ready seen told passed =
         let e = sym told ∙ passed in
-        let (none-lost, o) = write-accepted l s lost page xs e in
-        let above = (both-passed (settledRows l s lost ++ pageRows l page (length xs)) (chipSetRow lost ∷ []) e).0 in
-        let top = (both-passed (settledRows l s lost) (pageRows l page (length xs)) above).0 in
+        let (none_lost, o) = write_accepted l s lost page xs e in
+        let above = (both_passed (settled_rows l s lost ++ page_rows l page (length xs)) (chip_set_row lost ∷ []) e).0 in
+        let top = (both_passed (settled_rows l s lost) (page_rows l page (length xs)) above).0 in
         record {
           rows = e;
-          ready = ready g s lost seen top none-lost;
-          stripe = stripe-fits l o.settled.within page o.page;
-          member = member-fits l o.settled.within page;
+          ready = ready g s lost seen top none_lost;
+          stripe = stripe_fits l o.settled.within page o.page;
+          member = member_fits l o.settled.within page;
           whole = o.whole;
         }
 
-    pub write-refused : (a : ℕ) (r : Refusal) → checked (writeRows l s lost page xs) ≡ Failed r
-        → ◌≡◌ {A = Outcome} (record { answer = Refused r; images = s }) (writeCall l s lost page xs a)
-    unfolding writeCall
-    write-refused a r e = call-refused l noCounts s a (writeSteps l page xs) (writeRows l s lost page xs) r e
+    pub write_refused : (a : ℕ) (r : Refusal) → checked (write_rows l s lost page xs) ≡ Failed r
+        → ◌≡◌ {A = Outcome} (record { answer = Refused r; images = s }) (write_call l s lost page xs a)
+    unfolding write_call
+    write_refused a r e = call-refused l no_counts s a (write_steps l page xs) (write_rows l s lost page xs) r e
 
-    pub write-ran : (a : ℕ) {look : Look} {p q : Progress} {t : Images} → WriteReady g s lost page xs look → p ≡ started noCounts (min a (2 ^ 59))
-        → Ran l p (writeMember l (page / g.n) (page % g.n) xs s) q s t → ◌≡◌ {A = Outcome} (record { answer = answer_of q; images = t }) (writeCall l s lost page xs a)
-    unfolding writeCall writeSteps
-    write-ran a e begun h =
-        call-ran l noCounts s a (writeSteps l page xs) (writeRows l s lost page xs) (writeSteps l page xs s) e.rows refl
-        (short l (length (writeSteps l page xs s)) (needed.write s lost page xs e.rows) e.ready.store.within-limits.places-high) begun h
+    pub write_ran : (a : ℕ) {look : Look} {p q : Progress} {t : Images} → WriteReady g s lost page xs look → p ≡ started no_counts (min a (2 ^ 59))
+        → Ran l p (write_member l (page / g.n) (page % g.n) xs s) q s t → ◌≡◌ {A = Outcome} (record { answer = answer_of q; images = t }) (write_call l s lost page xs a)
+    unfolding write_call write_steps
+    write_ran a e begun h =
+        call-ran l no_counts s a (write_steps l page xs) (write_rows l s lost page xs) (write_steps l page xs s) e.rows refl
+        (short l (length (write_steps l page xs s)) (needed.write s lost page xs e.rows) e.ready.store.within_limits.places_high) begun h
 
   module _ (fits : Bool) where
-    pub free-told : {look : Look} {k : Check} → look ≡ look_of l s lost (checked (settledRows l s lost))
-        → k ≡ below look.check (checked (freeRows fits lost)) → k ≡ checked (settledRows l s lost ++ freeRows fits lost)
-    free-told seen e = rows_told l s lost (settledRows l s lost) (freeRows fits lost) seen e
+    pub free_told : {look : Look} {k : Check} → look ≡ look_of l s lost (checked (settled_rows l s lost))
+        → k ≡ below look.check (checked (free_rows fits lost)) → k ≡ checked (settled_rows l s lost ++ free_rows fits lost)
+    free_told seen e = rows_told l s lost (settled_rows l s lost) (free_rows fits lost) seen e
 
-    pub free-ready : {look : Look} {k : Check} → look ≡ look_of l s lost (checked (settledRows l s lost)) → k ≡ checked (settledRows l s lost ++ freeRows fits lost) → k ≡ Passed
+    pub free_ready : {look : Look} {k : Check} → look ≡ look_of l s lost (checked (settled_rows l s lost)) → k ≡ checked (settled_rows l s lost ++ free_rows fits lost) → k ≡ Passed
         → FreeReady g s lost fits look
-    free-ready seen told passed =
+    free_ready seen told passed =
         let e = sym told ∙ passed in
-        let (top, rest) = both-passed (settledRows l s lost) (freeRows fits lost) e in
-        let h = rows-passed (freeRows fits lost) rest in
-        record { rows = e; ready = ready g s lost seen top (eqb-true lost noChip h.1.0); fit = h.0 }
+        let (top, rest) = both_passed (settled_rows l s lost) (free_rows fits lost) e in
+        let h = rows_passed (free_rows fits lost) rest in
+        record { rows = e; ready = ready g s lost seen top (eqb-true lost no_chip h.1.0); fit = h.0 }
 
   module _ (j a : ℕ) where
-    pub commit-refused : (r : Refusal) → checked (settledRows l s lost ++ freeRows (ltb j g.s) lost) ≡ Failed r
-        → ◌≡◌ {A = Outcome} (record { answer = Refused r; images = s }) (commitCall l s lost j a)
-    unfolding commitCall commitRows
-    commit-refused r e =
-        call-refused l noCounts s a (commitSteps l j) (commitRows l s lost j) r
-        (below-failed (settledRows l s lost ++ freeRows (ltb j g.s) lost) ((hasSlot (recordAt l s.records j), Work) ∷ []) r e)
+    pub commit_refused : (r : Refusal) → checked (settled_rows l s lost ++ free_rows (ltb j g.s) lost) ≡ Failed r
+        → ◌≡◌ {A = Outcome} (record { answer = Refused r; images = s }) (commit_call l s lost j a)
+    unfolding commit_call commit_rows
+    commit_refused r e =
+        call-refused l no_counts s a (commit_steps l j) (commit_rows l s lost j) r
+        (below_failed (settled_rows l s lost ++ free_rows (ltb j g.s) lost) ((has_slot (record_at l s.records j), Work) ∷ []) r e)
 
     -- what row 10 comes to
-    commit-last : (slot : Bool) → checked (settledRows l s lost ++ freeRows (ltb j g.s) lost) ≡ Passed → hasSlot (recordAt l s.records j) ≡ slot
-        → checked (commitRows l s lost j) ≡ unless slot Work Passed
-    unfolding commitRows
-    commit-last slot e f = below-passed (settledRows l s lost ++ freeRows (ltb j g.s) lost) ((hasSlot (recordAt l s.records j), Work) ∷ []) e ∙ rw f
+    commit_last : (slot : Bool) → checked (settled_rows l s lost ++ free_rows (ltb j g.s) lost) ≡ Passed → has_slot (record_at l s.records j) ≡ slot
+        → checked (commit_rows l s lost j) ≡ unless slot Work Passed
+    unfolding commit_rows
+    commit_last slot e f = below_passed (settled_rows l s lost ++ free_rows (ltb j g.s) lost) ((has_slot (record_at l s.records j), Work) ∷ []) e ∙ rw f
 
     module _ {look : Look} (e : FreeReady g s lost (ltb j g.s) look) where
-      pub commit-slotless : hasSlot (recordAt l s.records j) ≡ false → ◌≡◌ {A = Outcome} (record { answer = Refused Work; images = s }) (commitCall l s lost j a)
-      unfolding commitCall
-      commit-slotless f = call-refused l noCounts s a (commitSteps l j) (commitRows l s lost j) Work (commit-last false e.rows f)
+      pub commit_slotless : has_slot (record_at l s.records j) ≡ false → ◌≡◌ {A = Outcome} (record { answer = Refused Work; images = s }) (commit_call l s lost j a)
+      unfolding commit_call
+      commit_slotless f = call-refused l no_counts s a (commit_steps l j) (commit_rows l s lost j) Work (commit_last false e.rows f)
 
-      pub commit-ran : {p q : Progress} {t : Images} → hasSlot (recordAt l s.records j) ≡ true → p ≡ started noCounts (min a (2 ^ 59))
-          → Ran l p (commitSteps l j s) q s t → ◌≡◌ {A = Outcome} (record { answer = answer_of q; images = t }) (commitCall l s lost j a)
-      unfolding commitCall
-      commit-ran f begun h =
-          let passed = commit-last true e.rows f in
-          call-ran l noCounts s a (commitSteps l j) (commitRows l s lost j) (commitSteps l j s) passed refl
-          (short l (length (commitSteps l j s)) (omega (arith, needed.commit s lost j passed)) e.ready.store.within-limits.places-high) begun h
+      pub commit_ran : {p q : Progress} {t : Images} → has_slot (record_at l s.records j) ≡ true → p ≡ started no_counts (min a (2 ^ 59))
+          → Ran l p (commit_steps l j s) q s t → ◌≡◌ {A = Outcome} (record { answer = answer_of q; images = t }) (commit_call l s lost j a)
+      unfolding commit_call
+      commit_ran f begun h =
+          let passed = commit_last true e.rows f in
+          call-ran l no_counts s a (commit_steps l j) (commit_rows l s lost j) (commit_steps l j s) passed refl
+          (short l (length (commit_steps l j s)) (omega (arith, needed.commit s lost j passed)) e.ready.store.within_limits.places_high) begun h
 
   module _ (c a : ℕ) where
     abbrev victim : Found
-    victim = victimOf l c (pageAt l s.chips c) (recordAt l s.records)
+    victim = victim_of l c (page_at l s.chips c) (record_at l s.records)
 
-    pub collect-refused : (r : Refusal) → checked (settledRows l s lost ++ freeRows (leb c g.n) lost) ≡ Failed r
-        → ◌≡◌ {A = Outcome} (record { answer = Refused r; images = s }) (collectCall l s lost c a)
-    unfolding collectCall collectRows
-    collect-refused r e =
-        call-refused l noCounts s a (collectSteps l c) (collectRows l s lost c) r
-        (below-failed (settledRows l s lost ++ freeRows (leb c g.n) lost) ((collectableOn l s c, Work) ∷ []) r e)
+    pub collect_refused : (r : Refusal) → checked (settled_rows l s lost ++ free_rows (leb c g.n) lost) ≡ Failed r
+        → ◌≡◌ {A = Outcome} (record { answer = Refused r; images = s }) (collect_call l s lost c a)
+    unfolding collect_call collect_rows
+    collect_refused r e =
+        call-refused l no_counts s a (collect_steps l c) (collect_rows l s lost c) r
+        (below_failed (settled_rows l s lost ++ free_rows (leb c g.n) lost) ((collectable_on l s c, Work) ∷ []) r e)
 
     -- what row 10 comes to
-    collect-last : (found : Found) → checked (settledRows l s lost ++ freeRows (leb c g.n) lost) ≡ Passed → victim ≡ found
-        → checked (collectRows l s lost c) ≡ unless (whenFound found (λ b. true) false) Work Passed
-    unfolding collectRows
-    collect-last found e f = below-passed (settledRows l s lost ++ freeRows (leb c g.n) lost) ((collectableOn l s c, Work) ∷ []) e ∙ rw f
+    collect_last : (found : Found) → checked (settled_rows l s lost ++ free_rows (leb c g.n) lost) ≡ Passed → victim ≡ found
+        → checked (collect_rows l s lost c) ≡ unless (when_found found (λ b. true) false) Work Passed
+    unfolding collect_rows
+    collect_last found e f = below_passed (settled_rows l s lost ++ free_rows (leb c g.n) lost) ((collectable_on l s c, Work) ∷ []) e ∙ rw f
 
     module _ {look : Look} (e : FreeReady g s lost (leb c g.n) look) where
-      pub collect-nothing : victim ≡ Nothing → ◌≡◌ {A = Outcome} (record { answer = Refused Work; images = s }) (collectCall l s lost c a)
-      unfolding collectCall whenFound
-      collect-nothing f = call-refused l noCounts s a (collectSteps l c) (collectRows l s lost c) Work (collect-last Nothing e.rows f)
+      pub collect_nothing : victim ≡ Nothing → ◌≡◌ {A = Outcome} (record { answer = Refused Work; images = s }) (collect_call l s lost c a)
+      unfolding collect_call when_found
+      collect_nothing f = call-refused l no_counts s a (collect_steps l c) (collect_rows l s lost c) Work (collect_last Nothing e.rows f)
 
-      pub collect-ran : {p q : Progress} {t : Images} (v : ℕ) → victim ≡ At v → p ≡ started noCounts (min a (2 ^ 59))
-          → Ran l p (collectBlock l c v s) q s t → ◌≡◌ {A = Outcome} (record { answer = answer_of q; images = t }) (collectCall l s lost c a)
-      unfolding collectCall whenFound
-      collect-ran {p} {q} {t} v f begun h =
-          let ran : Ran l p (collectSteps l c s) q s t = rw (collect-found l s c f) h in
-          let passed = collect-last (At v) e.rows f in
-          call-ran l noCounts s a (collectSteps l c) (collectRows l s lost c) (collectSteps l c s) passed refl
-          (short l (length (collectSteps l c s)) (omega (arith, needed.collect s lost c passed)) e.ready.store.within-limits.places-high) begun ran
+      pub collect_ran : {p q : Progress} {t : Images} (v : ℕ) → victim ≡ At v → p ≡ started no_counts (min a (2 ^ 59))
+          → Ran l p (collect_block l c v s) q s t → ◌≡◌ {A = Outcome} (record { answer = answer_of q; images = t }) (collect_call l s lost c a)
+      unfolding collect_call when_found
+      collect_ran {p} {q} {t} v f begun h =
+          let ran : Ran l p (collect_steps l c s) q s t = rw (collect_found l s c f) h in
+          let passed = collect_last (At v) e.rows f in
+          call-ran l no_counts s a (collect_steps l c) (collect_rows l s lost c) (collect_steps l c s) passed refl
+          (short l (length (collect_steps l c s)) (omega (arith, needed.collect s lost c passed)) e.ready.store.within_limits.places_high) begun ran

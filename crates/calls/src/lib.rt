@@ -4,8 +4,8 @@
 ghost use Rattle.std.specs.Prelude.{◌≡◌, [], ◌∷◌};
 ghost use Rattle.layout.specs.Layout.{layout_of};
 ghost use Rattle.rules.specs.declared.Refusal.TheVariants.{Request};
-ghost use Rattle.rules.specs.Refusals.{checked, pageRows, chipSetRow};
-ghost use Rattle.rules.specs.Calls.{Outcome, ReadOutcome, formatCall, openCall, writeCall, commitCall, collectCall, readCall};
+ghost use Rattle.rules.specs.Refusals.{checked, page_rows, chip_set_row};
+ghost use Rattle.rules.specs.Calls.{Outcome, ReadOutcome, format_call, open_call, write_call, commit_call, collect_call, read_call};
 ghost use Rattle.steps.specs.Allowance.{images};
 ghost use Rattle.looks.specs.Looks.{below};
 
@@ -34,7 +34,7 @@ pub fn format(
 ) -> Answer
     ensures { ◌≡◌ {A = Outcome}
         (record { answer = result; images = images chips.new records.new slots.now })
-        (formatCall (layout_of g) (images chips.old records.old slots.now) allowance) }
+        (format_call (layout_of g) (images chips.old records.old slots.now) allowance) }
 {
     let check = buffers_check(g, chips, records, slots);
     if let Check::Failed(r) = check {
@@ -54,7 +54,7 @@ pub fn open(
 ) -> Answer
     ensures { ◌≡◌ {A = Outcome}
         (record { answer = result; images = images chips.new records.new slots.now })
-        (openCall (layout_of g) (images chips.old records.old slots.now) lost allowance) }
+        (open_call (layout_of g) (images chips.old records.old slots.now) lost allowance) }
 {
     let look = images_look(g, chips, records, slots, lost as usize);
     let check = look.check;
@@ -69,7 +69,7 @@ pub fn open(
 
 // Rows 7 and 8 of read and write, below the others.
 fn page_check(first: Check, g: Geometry, page: u64, len: usize) -> Check
-    ensures { result ≡ below first (checked (pageRows (layout_of g) page len)) }
+    ensures { result ≡ below first (checked (page_rows (layout_of g) page len)) }
 {
     let fits = also(first, page_fits(g, page), Refusal::Request);
     also(fits, len == g.w as usize, Refusal::Data)
@@ -77,7 +77,7 @@ fn page_check(first: Check, g: Geometry, page: u64, len: usize) -> Check
 
 // Rows 7 and 9 of commit and collect.
 fn free_check(first: Check, fits: bool, lost: u64) -> Check
-    ensures { result ≡ below first (checked ((fits, Request) ∷ chipSetRow lost ∷ [])) }
+    ensures { result ≡ below first (checked ((fits, Request) ∷ chip_set_row lost ∷ [])) }
 {
     also(
         also(first, fits, Refusal::Request),
@@ -98,7 +98,7 @@ pub fn read(
 ) -> Reading
     ensures { ◌≡◌ {A = ReadOutcome}
         (record { answer = result; buffer = buffer.new })
-        (readCall (layout_of g) (images chips.now records.now slots.now) lost page buffer.old) }
+        (read_call (layout_of g) (images chips.now records.now slots.now) lost page buffer.old) }
 {
     let look = images_look(g, chips, records, slots, lost as usize);
     let first = look.check;
@@ -134,7 +134,7 @@ pub fn write(
 ) -> Answer
     ensures { ◌≡◌ {A = Outcome}
         (record { answer = result; images = images chips.new records.new slots.new })
-        (writeCall (layout_of g) (images chips.old records.old slots.old) lost page bytes.now allowance) }
+        (write_call (layout_of g) (images chips.old records.old slots.old) lost page bytes.now allowance) }
 {
     let look = settled_look(g, chips, records, slots, lost as usize);
     let first = look.check;
@@ -176,7 +176,7 @@ pub fn commit(
 ) -> Answer
     ensures { ◌≡◌ {A = Outcome}
         (record { answer = result; images = images chips.new records.new slots.now })
-        (commitCall (layout_of g) (images chips.old records.old slots.now) lost stripe allowance) }
+        (commit_call (layout_of g) (images chips.old records.old slots.now) lost stripe allowance) }
 {
     let look = settled_look(g, chips, records, slots, lost as usize);
     let first = look.check;
@@ -207,7 +207,7 @@ pub fn collect(
 ) -> Answer
     ensures { ◌≡◌ {A = Outcome}
         (record { answer = result; images = images chips.new records.new slots.now })
-        (collectCall (layout_of g) (images chips.old records.old slots.now) lost chip allowance) }
+        (collect_call (layout_of g) (images chips.old records.old slots.now) lost chip allowance) }
 {
     let look = settled_look(g, chips, records, slots, lost as usize);
     let first = look.check;

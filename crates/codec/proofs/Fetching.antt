@@ -9,19 +9,19 @@ use mathlib.Core.Bool.{true}
 use mathlib.Core.List.{List}
 use lib.ListN.{length, get_or, set}
 use lib.Seq.{get_or-set_same, get_or-set_other}
-use Rattle.bytes.specs.Number.{number}
-use Rattle.bytes.specs.Units.{part}
-use Rattle.bytes.proofs.Units.{part-unit}
+use Rattle.octets.specs.Number.{number}
+use Rattle.octets.specs.Units.{part}
+use Rattle.octets.proofs.Units.{part_unit}
 use borrow.Author.Tests.{lt-ltb, le-ltb}
-use Rattle.layout.specs.Record.{sixFrom, recordOf, recordAt}
+use Rattle.layout.specs.Record.{six_from, record_of, record_at}
 use Rattle.ranges.proofs.Looks.{at_last, by_order}
 use Rattle.layout.specs.declared.Geometry.{Geometry}
 use Rattle.layout.specs.Layout.{layout_of, limits, none, pages}
 use Rattle.layout.proofs.Limits.{within}
-use Rattle.layout.specs.Page.{pageAt}
-use Rattle.layout.proofs.Pages.{page-in-fits}
+use Rattle.layout.specs.Page.{page_at}
+use Rattle.layout.proofs.Pages.{page_in_fits}
 use Rattle.codec.specs.Fit.{ChipsFit}
-use Rattle.codec.proofs.Offsets.{offset, page-high, page-within, PageIn, page-in}
+use Rattle.codec.proofs.Offsets.{offset, page_high, page_within, PageIn, page_in_lem}
 use Rattle.codec.specs.Scan.{TagIs, StampsOf, number_of}
 
 -- ---- a list that a loop fills
@@ -50,14 +50,14 @@ OnChip g p = (p < pages (layout_of g)) × (p < 65535)
 
 module _ (g : Geometry) (limited : limits (layout_of g) ≡ true) where
   -- the first b blocks have no more pages than two bytes number
-  pub start-low : (b : ℕ) → b ≤ g.b → b * g.k ≤ 65535
+  pub start_low : (b : ℕ) → b ≤ g.b → b * g.k ≤ 65535
   unfolding none
-  start-low b h = omega (arith, (within (layout_of g) limited).pages-numbered, mul-le-mul_right g.k h)
+  start_low b h = omega (arith, (within (layout_of g) limited).pages_numbered, mul-le-mul_right g.k h)
 
   -- a place of a block is a page
-  pub place-low : (b i : ℕ) → b < g.b → i < g.k → OnChip g (b * g.k + i)
-  place-low b i block place =
-      let low = page-in-fits (layout_of g) b i block place in (low, omega (arith, start-low g.b (le_refl g.b)))
+  pub place_low : (b i : ℕ) → b < g.b → i < g.k → OnChip g (b * g.k + i)
+  place_low b i block place =
+      let low = page_in_fits (layout_of g) b i block place in (low, omega (arith, start_low g.b (le_refl g.b)))
 
 -- ---- the spares of pages one behind another
 
@@ -72,40 +72,40 @@ StripeAt chips a u m j = j ≡ number (part (a + m * u + 2) 2 chips)
 -- so many pages of chip c from p on are there
 module _ (g : Geometry) (chips : List ℕ) (fit : ChipsFit g chips) (c p n : ℕ) (chip : c ≤ g.n) (there : p + n ≤ pages (layout_of g)) where
   -- the spare of page p + i is i pages behind that of page p
-  spare-place : (i : ℕ) → offset g c p + g.w + i * (g.w + 8) ≡ offset g c (p + i) + g.w
-  spare-place i =
+  spare_place : (i : ℕ) → offset g c p + g.w + i * (g.w + 8) ≡ offset g c (p + i) + g.w
+  spare_place i =
       let e : c * pages (layout_of g) + (p + i) ≡ c * pages (layout_of g) + p + i = omega arith in
       rw (e, add-mul) (omega arith)
 
   -- it ends within the image, and its offset is no large number
-  pub spare-within : (i : ℕ) → i < n
+  pub spare_within : (i : ℕ) → i < n
       → let a = offset g c p + g.w + i * (g.w + 8) in (a + 4 ≤ length chips) × (a ≤ 1882689480)
-  spare-within i place =
+  spare_within i place =
       let low : p + i < pages (layout_of g) = omega arith in
-      rw spare-place (rw fit.long (omega (arith, page-within g c (p + i) chip low)), omega (arith, page-high g c (p + i) chip low fit.limited))
+      rw spare_place (rw fit.long (omega (arith, page_within g c (p + i) chip low)), omega (arith, page_high g c (p + i) chip low fit.limited))
 
   -- all tags and stripes from the first spare on are those of the pages
-  pub fetch-all : {tags stripes : List ℕ} {i : ℕ}
+  pub fetch_all : {tags stripes : List ℕ} {i : ℕ}
       → Filled (TagAt chips (offset g c p + g.w) (g.w + 8)) tags i
       → Filled (StripeAt chips (offset g c p + g.w) (g.w + 8)) stripes i
       → i ≡ n
-      → StampsOf (pageAt (layout_of g) chips c) p n tags stripes
-  fetch-all h s e =
-      let page : (i : ℕ) → i < n → PageIn g chips c (p + i) = λ i place. page-in g chips c (p + i) (omega arith) in
+      → StampsOf (page_at (layout_of g) chips c) p n tags stripes
+  fetch_all h s e =
+      let page : (i : ℕ) → i < n → PageIn g chips c (p + i) = λ i place. page_in_lem g chips c (p + i) (omega arith) in
       record {
-        tag = λ i place. rw ((page i place).kind, (page i place).member, ← spare-place i) (h.at i (rw e place));
-        stripe = λ i place. rw ((page i place).stripe, ← spare-place i) (s.at i (rw e place));
+        tag = λ i place. rw ((page i place).kind, (page i place).member, ← spare_place i) (h.at i (rw e place));
+        stripe = λ i place. rw ((page i place).stripe, ← spare_place i) (s.at i (rw e place));
       }
 
 -- ---- the numbers of a record
 
 -- number i of record j stands at 2 i
-pub number_in : (g : Geometry) (xs : List ℕ) (j i : ℕ) → j < g.s → i ≤ 12 → number (part (j * 32 + 2 * i) 2 xs) ≡ number_of (recordAt (layout_of g) xs j) i
-unfolding number_of recordAt recordOf sixFrom
+pub number_in : (g : Geometry) (xs : List ℕ) (j i : ℕ) → j < g.s → i ≤ 12 → number (part (j * 32 + 2 * i) 2 xs) ≡ number_of (record_at (layout_of g) xs j) i
+unfolding number_of record_at record_of six_from
 number_in g xs j i stripe h =
-    let here = part-unit 32 j (2 * i) 2 xs (omega arith) in
+    let here = part_unit 32 j (2 * i) 2 xs (omega arith) in
     by_order i 6
     (λ low. let e : (0 + i) * 2 ≡ 2 * i = omega arith in rw (lt-ltb j g.s stripe, lt-ltb i 6 low, e, here))
     (λ high. by_order i 12
     (λ low. let e : (6 + (i - 6)) * 2 ≡ 2 * i = omega arith in rw (lt-ltb j g.s stripe, le-ltb i 6 high, lt-ltb i 12 low, lt-ltb (i - 6) 6 (omega arith), e, here))
-    (λ last. let e : 2 * i ≡ 24 = omega arith in rw (lt-ltb j g.s stripe, le-ltb i 6 high, le-ltb i 12 last, e, part-unit 32 j 24 2 xs (omega arith))))
+    (λ last. let e : 2 * i ≡ 24 = omega arith in rw (lt-ltb j g.s stripe, le-ltb i 6 high, le-ltb i 12 last, e, part_unit 32 j 24 2 xs (omega arith))))

@@ -9,24 +9,24 @@ use mathlib.Core.List.{List}
 use lib.ListN.{length, get_or}
 use lib.Dec.{ltb, leb, eqb}
 use borrow.Author.Tests.{lt-ltb, le-ltb, le-leb, eq-eqb, ne_eqb, eqb-true, ltb-true, leb-true}
-use Rattle.ranges.specs.Look.{all_below, countBelow}
-use Rattle.ranges.proofs.Looks.{by_order, by-same, all-at, all_true}
-use Rattle.ranges.proofs.Counts.{count-fail, count-cong, count-zero, count-all, count-positive}
-use Rattle.ranges.proofs.Tallies.{same_tests, count-from}
-use Rattle.ranges.proofs.Tests.{under, unless-equal}
-use Rattle.bytes.specs.Number.{number}
-use Rattle.bytes.specs.Units.{part}
-use Rattle.bytes.proofs.Lists.{number-two}
+use Rattle.ranges.specs.Look.{all_below, count_below}
+use Rattle.ranges.proofs.Looks.{by_order, by_same, all_at, all_true}
+use Rattle.ranges.proofs.Counts.{count_fail, count_cong, count_zero, count_all, count_positive}
+use Rattle.ranges.proofs.Tallies.{same_tests, count_from}
+use Rattle.ranges.proofs.Tests.{under, unless_equal}
+use Rattle.octets.specs.Number.{number}
+use Rattle.octets.specs.Units.{part}
+use Rattle.octets.proofs.Lists.{number_two}
 use Rattle.layout.specs.declared.Geometry.{Geometry}
 use Rattle.layout.specs.Layout.{layout_of, limits, none}
-use Rattle.layout.specs.Images.{recordsLength}
-use Rattle.layout.specs.Record.{recordAt}
+use Rattle.layout.specs.Images.{records_length}
+use Rattle.layout.specs.Record.{record_at}
 use Rattle.codec.specs.Fit.{RecordsFit}
-use Rattle.codec.specs.Views.{sixAt, recordFrom}
+use Rattle.codec.specs.Views.{six_at, record_from}
 use Rattle.codec.specs.declared.StripeRecord.{StripeRecord}
 use Rattle.codec.proofs.Sizes.{bounded}
-use Rattle.codec.proofs.Encodings.{six-is, six-in, six-number, number-four, recordIn, record-in, rest_in, ended_same}
-use Rattle.codec.specs.Scan.{Ranges, WordAt, Clear, currentGiven, Plain, number_at, number_in, is_written, writtenIn}
+use Rattle.codec.proofs.Encodings.{six_is, six_in, six_number, number_four, record_in, record_in_lem, rest_in, ended_same}
+use Rattle.codec.specs.Scan.{Ranges, WordAt, Clear, current_given, Plain, number_at, number_in, is_written, written_in}
 
 -- ---- a record with nothing in the partial parity, as the code reads it
 
@@ -42,19 +42,19 @@ record Bare (g : Geometry) (e : StripeRecord) : Type 0 where
   bitmap : e.bitmap ≡ 0
   slot : e.slot ≡ 255
 
-bare-plain : {g : Geometry} {e : StripeRecord} → Bare g e
-    → Plain (layout_of g) (recordFrom (layout_of g) e) (countBelow 6 (given e.current) + cond (eqb e.parity 65535) 0 1)
-unfolding recordFrom none
-bare-plain {g} {e} b =
+bare_plain : {g : Geometry} {e : StripeRecord} → Bare g e
+    → Plain (layout_of g) (record_from (layout_of g) e) (count_below 6 (given e.current) + cond (eqb e.parity 65535) 0 1)
+unfolding record_from none
+bare_plain {g} {e} b =
     let l = layout_of g in
     record {
-      current = λ m h. rw (six-in l e.current m h) (b.current m h);
-      old = λ m h. rw (six-in l e.old m h) (b.old m h);
+      current = λ m h. rw (six_in l e.current m h) (b.current m h);
+      old = λ m h. rw (six_in l e.old m h) (b.old m h);
       parity = b.parity;
       bitmap = b.bitmap;
       slot = b.slot;
       rest = refl;
-      counted = rw (count-cong 6 (given e.current) (currentGiven l (recordFrom l e)) (λ m h. rw (six-in l e.current m h)));
+      counted = rw (count_cong 6 (given e.current) (current_given l (record_from l e)) (λ m h. rw (six_in l e.current m h)));
     }
 
 -- ---- one number
@@ -63,27 +63,27 @@ bare-plain {g} {e} b =
 abbrev pub next : ℕ → ℕ
 next x = (x + 1) % 65536
 
-next-none : (x : ℕ) → x < 65536 → eqb (next x) 0 ≡ eqb x 65535
-next-none x h = same_tests (eqb (next x) 0) (eqb x 65535)
+next_none : (x : ℕ) → x < 65536 → eqb (next x) 0 ≡ eqb x 65535
+next_none x h = same_tests (eqb (next x) 0) (eqb x 65535)
     (λ t. eq-eqb x 65535 (omega (arith, eqb-true (next x) 0 t)))
     (λ t. eq-eqb (next x) 0 (omega (arith, eqb-true x 65535 t)))
 
 -- a page within its range is a member's
-in-range : {n pages : ℕ} {tops : List ℕ} → Ranges n pages tops → (m x : ℕ) → m < 8 → x < 65536 → leb (next x) (get_or tops m 0) ≡ true
+in_range : {n pages : ℕ} {tops : List ℕ} → Ranges n pages tops → (m x : ℕ) → m < 8 → x < 65536 → leb (next x) (get_or tops m 0) ≡ true
     → x ≢ 65535 → (m < n) × (x < pages)
-in-range {n} {pages} {tops} r m x h small t d =
+in_range {n} {pages} {tops} r m x h small t d =
     let low = leb-true (next x) (get_or tops m 0) t in
     by_order m n
     (λ b. let top = rw (lt-ltb m n b) at (r.is m h) in (b, omega arith))
     (λ b. let top = rw (le-ltb m n b) at (r.is m h) in absurd (d (omega arith)))
 
 -- the parity page is below the pages
-pub parity-low : (p pages : ℕ) → eqb p 65535 || ltb p pages ≡ true → p ≢ 65535 → p < pages
-parity-low p pages t d = ltb-true p pages (unless-equal p 65535 (ltb p pages) t d)
+pub parity_low : (p pages : ℕ) → eqb p 65535 || ltb p pages ≡ true → p ≢ 65535 → p < pages
+parity_low p pages t d = ltb-true p pages (unless_equal p 65535 (ltb p pages) t d)
 
 -- without one there are no pages
-pub no-parity : (p names : ℕ) → not (eqb p 65535) || eqb names 0 ≡ true → p ≡ 65535 → names ≡ 0
-no-parity p names t q = eqb-true names 0 (under (eqb p 65535) (eqb names 0) t (eq-eqb p 65535 q))
+pub no_parity : (p names : ℕ) → not (eqb p 65535) || eqb names 0 ≡ true → p ≡ 65535 → names ≡ 0
+no_parity p names t q = eqb-true names 0 (under (eqb p 65535) (eqb names 0) t (eq-eqb p 65535 q))
 
 -- a number that is written is within its range, and a page exactly if a member's
 written : {n pages : ℕ} {tops : List ℕ} → Ranges n pages tops → 0 < pages → pages ≤ 65535 → (m x : ℕ) → m < 8
@@ -102,23 +102,23 @@ written {n} {pages} r some most m x h t = by_order m n
 -- ---- the numbers of a record
 
 -- number i of the record at offset a is within its range
-abbrev pub lowIn : List ℕ → List ℕ → ℕ → ℕ → Bool
-lowIn tops xs a i = leb (next (number_in xs a i)) (get_or tops i 0)
+abbrev pub low_in : List ℕ → List ℕ → ℕ → ℕ → Bool
+low_in tops xs a i = leb (next (number_in xs a i)) (get_or tops i 0)
 
 -- it is a page
-abbrev pub givenIn : List ℕ → ℕ → ℕ → Bool
-givenIn xs a i = not (eqb (next (number_in xs a i)) 0)
+abbrev pub given_in : List ℕ → ℕ → ℕ → Bool
+given_in xs a i = not (eqb (next (number_in xs a i)) 0)
 
 -- where all members are written, all eight are within their ranges, and as many are pages
-all-written : {n pages : ℕ} {tops : List ℕ} → Ranges n pages tops → 0 < pages → pages ≤ 65535 → n ≤ 8 → (xs : List ℕ) (a : ℕ)
-    → all_below 8 (writtenIn tops xs a) ≡ true → (all_below 8 (lowIn tops xs a) ≡ true) × (countBelow 8 (givenIn xs a) ≡ n)
-all-written {n} {pages} {tops} r some most few xs a e =
-    let each : (i : ℕ) → i < 8 → (lowIn tops xs a i ≡ true) × (givenIn xs a i ≡ ltb i n) =
-    λ i h. written r some most i (number_in xs a i) h (all-at 8 (writtenIn tops xs a) e i h) in
-    let members = count-all n (givenIn xs a) (λ i h. rw ((each i (omega arith)).1, lt-ltb i n h)) in
-    let others = count-zero (8 - n) (λ i. givenIn xs a (n + i)) (λ i h. rw ((each (n + i) (omega arith)).1, le-ltb (n + i) n (omega arith))) in
+all_written : {n pages : ℕ} {tops : List ℕ} → Ranges n pages tops → 0 < pages → pages ≤ 65535 → n ≤ 8 → (xs : List ℕ) (a : ℕ)
+    → all_below 8 (written_in tops xs a) ≡ true → (all_below 8 (low_in tops xs a) ≡ true) × (count_below 8 (given_in xs a) ≡ n)
+all_written {n} {pages} {tops} r some most few xs a e =
+    let each : (i : ℕ) → i < 8 → (low_in tops xs a i ≡ true) × (given_in xs a i ≡ ltb i n) =
+    λ i h. written r some most i (number_in xs a i) h (all_at 8 (written_in tops xs a) e i h) in
+    let members = count_all n (given_in xs a) (λ i h. rw ((each i (omega arith)).1, lt-ltb i n h)) in
+    let others = count_zero (8 - n) (λ i. given_in xs a (n + i)) (λ i h. rw ((each (n + i) (omega arith)).1, le-ltb (n + i) n (omega arith))) in
     let eight : n + (8 - n) ≡ 8 = omega arith in
-    (all_true 8 (lowIn tops xs a) (λ i h. (each i h).0), omega (arith, rw eight at (count-from n (8 - n) (givenIn xs a))))
+    (all_true 8 (low_in tops xs a) (λ i h. (each i h).0), omega (arith, rw eight at (count_from n (8 - n) (given_in xs a))))
 
 -- ---- what the look tells of it
 
@@ -128,43 +128,43 @@ record Looked (g : Geometry) (xs tops : List ℕ) (a : ℕ) : Type 0 where
   ranges : Ranges g.n (g.b * g.k) tops
   long : a + 32 ≤ length xs
   bytes : (i : ℕ) → get_or xs i 0 < 256
-  lows : all_below 8 (lowIn tops xs a) ≡ true
+  lows : all_below 8 (low_in tops xs a) ≡ true
 
 module _ {g : Geometry} {xs tops : List ℕ} {a : ℕ} (k : Looked g xs tops a) where
   -- they have two bytes each
   small : (i : ℕ) → i < 8 → number_in xs a i < 65536
-  small i h = omega (arith, number-two xs (a + 2 * i) (omega arith), k.bytes (a + 2 * i), k.bytes (a + 2 * i + 1))
+  small i h = omega (arith, number_two xs (a + 2 * i) (omega arith), k.bytes (a + 2 * i), k.bytes (a + 2 * i + 1))
 
   -- a page is a member's
-  of-member : (i : ℕ) → i < 8 → number_in xs a i ≢ 65535 → (i < g.n) × (number_in xs a i < g.b * g.k)
-  of-member i h = in-range k.ranges i (number_in xs a i) h (small i h) (all-at 8 (lowIn tops xs a) k.lows i h)
+  of_member : (i : ℕ) → i < 8 → number_in xs a i ≢ 65535 → (i < g.n) × (number_in xs a i < g.b * g.k)
+  of_member i h = in_range k.ranges i (number_in xs a i) h (small i h) (all_at 8 (low_in tops xs a) k.lows i h)
 
   -- so the last two are none
   beyond : (i : ℕ) → i < 8 → 6 ≤ i → number_in xs a i ≡ 65535
-  beyond i h high = by-same (number_in xs a i) 65535 (λ e. e) (λ d. absurd (omega (arith, of-member i h d, bounded g k.limited)))
+  beyond i h high = by_same (number_in xs a i) 65535 (λ e. e) (λ d. absurd (omega (arith, of_member i h d, bounded g k.limited)))
 
   -- and the pages counted are the current ones
-  counted : (i : ℕ) → i < 8 → givenIn xs a i ≡ not (eqb (number_in xs a i) 65535)
-  counted i h = ap not (next-none (number_in xs a i) (small i h))
+  counted : (i : ℕ) → i < 8 → given_in xs a i ≡ not (eqb (number_in xs a i) 65535)
+  counted i h = ap not (next_none (number_in xs a i) (small i h))
 
-  counts : countBelow 8 (givenIn xs a) ≡ countBelow 6 (given (sixAt a xs))
+  counts : count_below 8 (given_in xs a) ≡ count_below 6 (given (six_at a xs))
   counts =
-      let last : (i : ℕ) → i < 8 → 6 ≤ i → givenIn xs a i ≡ false = λ i h high. rw (counted i h, beyond i h high) in
-      count-fail 7 (givenIn xs a) (last 7 (omega arith) (omega arith))
-      ∙ count-fail 6 (givenIn xs a) (last 6 (omega arith) (omega arith))
-      ∙ count-cong 6 (givenIn xs a) (given (sixAt a xs)) (λ i h. rw (counted i (omega arith), six-number a xs i h))
+      let last : (i : ℕ) → i < 8 → 6 ≤ i → given_in xs a i ≡ false = λ i h high. rw (counted i h, beyond i h high) in
+      count_fail 7 (given_in xs a) (last 7 (omega arith) (omega arith))
+      ∙ count_fail 6 (given_in xs a) (last 6 (omega arith) (omega arith))
+      ∙ count_cong 6 (given_in xs a) (given (six_at a xs)) (λ i h. rw (counted i (omega arith), six_number a xs i h))
 
   -- a current page, where there are none without the parity page p
-  current-page : {p : ℕ} → (p ≡ 65535 → countBelow 8 (givenIn xs a) ≡ 0) → (m : ℕ) → m < 6 → number_in xs a m ≢ 65535
+  current_page : {p : ℕ} → (p ≡ 65535 → count_below 8 (given_in xs a) ≡ 0) → (m : ℕ) → m < 6 → number_in xs a m ≢ 65535
       → (m < g.n) × (number_in xs a m < g.b * g.k) × (p ≢ 65535)
-  current-page without m h d =
-      let (member, page) = of-member m (omega arith) d in
-      let there : givenIn xs a m ≡ true = rw (counted m (omega arith), ne_eqb (number_in xs a m) 65535 d) in
-      (member, page, λ q. omega (arith, without q, count-positive 8 (givenIn xs a) m (omega arith) there))
+  current_page without m h d =
+      let (member, page) = of_member m (omega arith) d in
+      let there : given_in xs a m ≡ true = rw (counted m (omega arith), ne_eqb (number_in xs a m) 65535 d) in
+      (member, page, λ q. omega (arith, without q, count_positive 8 (given_in xs a) m (omega arith) there))
 
   -- the old numbers are none: two are the last of the eight
-  no-olds : Clear xs a → (m : ℕ) → m < 6 → get_or (sixAt (a + 12) xs) m 0 ≡ 65535
-  no-olds c = six-is (λ m. 65535)
+  no_olds : Clear xs a → (m : ℕ) → m < 6 → get_or (six_at (a + 12) xs) m 0 ≡ 65535
+  no_olds c = six_is (λ m. 65535)
       (beyond 6 (omega arith) (omega arith))
       (rw add_assoc (beyond 7 (omega arith) (omega arith)))
       (rw add_assoc c.third)
@@ -173,11 +173,11 @@ module _ {g : Geometry} {xs tops : List ℕ} {a : ℕ} (k : Looked g xs tops a) 
       (rw add_assoc c.sixth)
 
   -- so the record is bare
-  bare : {p : ℕ} → p ≡ number_at xs (a + 24) → Clear xs a → (p ≢ 65535 → p < g.b * g.k) → (p ≡ 65535 → countBelow 8 (givenIn xs a) ≡ 0)
-      → Bare g (recordIn xs a)
+  bare : {p : ℕ} → p ≡ number_at xs (a + 24) → Clear xs a → (p ≢ 65535 → p < g.b * g.k) → (p ≡ 65535 → count_below 8 (given_in xs a) ≡ 0)
+      → Bare g (record_in xs a)
   bare is c low without = record {
-    current = λ m h. rw (six-number a xs m h, ← is) (current-page without m h);
-    old = no-olds c;
+    current = λ m h. rw (six_number a xs m h, ← is) (current_page without m h);
+    old = no_olds c;
     parity = rw is at low;
     bitmap = c.bitmap;
     slot = c.slot;
@@ -189,7 +189,7 @@ module _ {xs : List ℕ} {a : ℕ} (long : a + 32 ≤ length xs) (bytes : (i : �
   pub clear : {olds last : ℕ} → WordAt xs (a + 16) olds → WordAt xs (a + 24) last → olds ≡ 18446744073709551615 → last / 65536 ≡ 65280 → Clear xs a
   clear old-word word none_old ends =
       let two : number_at xs (a + 26) ≡ get_or xs (a + 26) 0 + 256 * get_or xs (a + 27) 0 =
-      rw (← add_assoc a 26 1) (number-two xs (a + 26) (omega arith)) in
+      rw (← add_assoc a 26 1) (number_two xs (a + 26) (omega arith)) in
       let second : number_at xs (a + 26) ≡ 65280 = rw (← add_assoc a 24 2) (omega arith) in
       record {
         third = omega arith;
@@ -198,7 +198,7 @@ module _ {xs : List ℕ} {a : ℕ} (long : a + 32 ≤ length xs) (bytes : (i : �
         sixth = rw (← add_assoc a 16 6) (omega arith);
         bitmap = omega (arith, bytes (a + 26), bytes (a + 27));
         slot = omega (arith, bytes (a + 26), bytes (a + 27));
-        rest = rw (number-four (a + 28) xs, add_assoc a 28 2, ← add_assoc a 24 4, ← add_assoc a 24 6) (omega arith);
+        rest = rw (number_four (a + 28) xs, add_assoc a 28 2, ← add_assoc a 24 4, ← add_assoc a 24 6) (omega arith);
       }
 
 -- ---- what the looks tell of record j, with its parity number p
@@ -206,21 +206,21 @@ module _ {xs : List ℕ} {a : ℕ} (long : a + 32 ≤ length xs) (bytes : (i : �
 module _ {g : Geometry} {xs tops : List ℕ} {j p : ℕ} (fit : RecordsFit g xs) (stripe : j < g.s)
     (ranges : Ranges g.n (g.b * g.k) tops) (bytes : (i : ℕ) → get_or xs i 0 < 256) (is : p ≡ number_at xs (j * 32 + 24)) where
   -- it is plain where its ending is clear, its numbers are within their ranges, and there are none without a parity page
-  pub plain : Clear xs (j * 32) → all_below 8 (lowIn tops xs (j * 32)) ≡ true
-      → (p ≢ 65535 → p < g.b * g.k) → (p ≡ 65535 → countBelow 8 (givenIn xs (j * 32)) ≡ 0)
-      → Plain (layout_of g) (recordAt (layout_of g) xs j) (countBelow 8 (givenIn xs (j * 32)) + cond (eqb p 65535) 0 1)
-  unfolding recordsLength
+  pub plain : Clear xs (j * 32) → all_below 8 (low_in tops xs (j * 32)) ≡ true
+      → (p ≢ 65535 → p < g.b * g.k) → (p ≡ 65535 → count_below 8 (given_in xs (j * 32)) ≡ 0)
+      → Plain (layout_of g) (record_at (layout_of g) xs j) (count_below 8 (given_in xs (j * 32)) + cond (eqb p 65535) 0 1)
+  unfolding records_length
   plain ends lows low without =
       let k : Looked g xs tops (j * 32) =
       record { limited = fit.limited; ranges = ranges; long = omega (arith, fit.long); bytes = bytes; lows = lows } in
       let b = bare k is ends low without in
-      let same = record-in g xs j stripe ∙ ended_same (rest_in g xs j stripe ∙ ends.rest) in
-      rw (← same, counts k, is) (bare-plain b)
+      let same = record_in_lem g xs j stripe ∙ ended_same (rest_in g xs j stripe ∙ ends.rest) in
+      rw (← same, counts k, is) (bare_plain b)
 
   -- so it is where all members are written and the parity page is there
-  pub full : Clear xs (j * 32) → p < g.b * g.k → all_below 8 (writtenIn tops xs (j * 32)) ≡ true
-      → Plain (layout_of g) (recordAt (layout_of g) xs j) (g.n + 1)
+  pub full : Clear xs (j * 32) → p < g.b * g.k → all_below 8 (written_in tops xs (j * 32)) ≡ true
+      → Plain (layout_of g) (record_at (layout_of g) xs j) (g.n + 1)
   full ends low all =
       let limit = bounded g fit.limited in
-      let (lows, count) = all-written ranges (omega arith) limit.pages (omega arith) xs (j * 32) all in
+      let (lows, count) = all_written ranges (omega arith) limit.pages (omega arith) xs (j * 32) all in
       rw (count, ne_eqb p 65535 (omega arith)) at (plain ends lows (λ d. low) (λ q. absurd (omega (arith, low, limit.pages))))

@@ -7,44 +7,44 @@ use mathlib.Core.Bool.{Bool, true, false}
 use mathlib.Core.List.{List, [], ◌∷◌}
 use lib.Dec.{leb, eqb}
 use borrow.Author.Tests.{leb-true}
-use Rattle.ranges.proofs.Tests.{chain, chain-all}
+use Rattle.ranges.proofs.Tests.{chain, chain_all}
 use Rattle.layout.specs.declared.Geometry.{Geometry}
 use Rattle.layout.specs.Layout.{layout_of, limits, none}
 use Rattle.layout.proofs.Limits.{within}
 
 module _ (g : Geometry) where
   -- those after the first of the tests that form no product
-  abbrev sizeTests : List Bool
-  sizeTests =
+  abbrev size_tests : List Bool
+  size_tests =
       leb g.n 6 ∷ leb 16 g.w ∷ leb g.w 4096 ∷ eqb (g.w % 16) 0 ∷ leb 2 g.k ∷ leb g.k 128 ∷ leb 2 g.b
       ∷ leb g.b 1024 ∷ []
 
   -- the tests that form no product
   abbrev pub sizes : Bool
-  sizes = chain (leb 2 g.n) sizeTests
+  sizes = chain (leb 2 g.n) size_tests
 
   -- those after the first of the tests that then follow
-  abbrev countTests : List Bool
-  countTests = leb 1 g.s ∷ leb g.s 65535 ∷ leb 1 g.m ∷ leb g.m 254 ∷ []
+  abbrev count_tests : List Bool
+  count_tests = leb 1 g.s ∷ leb g.s 65535 ∷ leb 1 g.m ∷ leb g.m 254 ∷ []
 
   -- the tests that then follow
   abbrev pub counts : Bool
-  counts = chain (leb (g.b * g.k) 65535) countTests
+  counts = chain (leb (g.b * g.k) 65535) count_tests
 
   -- where the first tests fail, so do the limits
-  pub sizes-fail : sizes ≡ false → false ≡ limits (layout_of g)
+  pub sizes_fail : sizes ≡ false → false ≡ limits (layout_of g)
   unfolding limits none
-  sizes-fail e = rw e
+  sizes_fail e = rw e
 
   -- where the others fail too
-  pub counts-fail : sizes ≡ true → counts ≡ false → false ≡ limits (layout_of g)
+  pub counts_fail : sizes ≡ true → counts ≡ false → false ≡ limits (layout_of g)
   unfolding limits none
-  counts-fail e f = rw (e, f)
+  counts_fail e f = rw (e, f)
 
   -- where both pass, the limits are what is left
-  pub counts-pass : sizes ≡ true → counts ≡ true → leb (g.s + g.m + 1) ((g.b - 1) * g.k) ≡ limits (layout_of g)
+  pub counts_pass : sizes ≡ true → counts ≡ true → leb (g.s + g.m + 1) ((g.b - 1) * g.k) ≡ limits (layout_of g)
   unfolding limits none
-  counts-pass e f = rw (e, f)
+  counts_pass e f = rw (e, f)
 
   -- bounds of the products
   pub record Small : Type 0 where
@@ -55,7 +55,7 @@ module _ (g : Geometry) where
   -- the first tests give them
   pub small : sizes ≡ true → Small
   small e =
-      let h = chain-all (leb 2 g.n) sizeTests e in
+      let h = chain_all (leb 2 g.n) size_tests e in
       let places : g.k ≤ 128 = omega (arith, leb-true) in
       let blocks : g.b ≤ 1024 = omega (arith, leb-true) in
       let others : g.b - 1 ≤ 1023 = omega arith in
@@ -63,7 +63,7 @@ module _ (g : Geometry) where
 
   -- the others bound the sum
   pub few : counts ≡ true → g.s + g.m ≤ 65789
-  few e = let h = chain-all (leb (g.b * g.k) 65535) countTests e in omega (arith, leb-true)
+  few e = let h = chain_all (leb (g.b * g.k) 65535) count_tests e in omega (arith, leb-true)
 
   -- bounds of the lengths, and of what leads to them
   pub record Bounded : Type 0 where
@@ -72,7 +72,7 @@ module _ (g : Geometry) where
     pub stripes : g.s ≤ 65535
     pub partials : g.m ≤ 254
     pub pages : g.b * g.k ≤ 65535
-    pub all-pages : (g.n + 1) * (g.b * g.k) ≤ 458745
+    pub all_pages : (g.n + 1) * (g.b * g.k) ≤ 458745
     pub chips : (g.n + 1) * (g.b * g.k) * (g.w + 8) ≤ 1882689480
     pub slots : (g.m + 1) * g.w ≤ 1044480
     -- 1 << N
@@ -86,16 +86,16 @@ module _ (g : Geometry) where
       let members : g.n + 1 ≤ 7 = omega arith in
       let bytes : g.w + 8 ≤ 4104 = omega arith in
       let partials : g.m + 1 ≤ 255 = omega arith in
-      let pages : (g.n + 1) * (g.b * g.k) ≤ 458745 = mul-le-mul members w.pages-numbered in
+      let pages : (g.n + 1) * (g.b * g.k) ≤ 458745 = mul-le-mul members w.pages_numbered in
       let two : 0 < 2 = omega arith in
       record {
-        members = w.members-high;
+        members = w.members_high;
         bytes = w.bytes_high;
-        stripes = w.stripes-high;
-        partials = w.partials-high;
-        pages = w.pages-numbered;
-        all-pages = pages;
+        stripes = w.stripes_high;
+        partials = w.partials_high;
+        pages = w.pages_numbered;
+        all_pages = pages;
         chips = mul-le-mul pages bytes;
         slots = mul-le-mul partials w.bytes_high;
-        bitmaps = rw one-mul (mod-eq_of_lt (omega (arith, pow-le-pow_right two w.members-high)));
+        bitmaps = rw one-mul (mod-eq_of_lt (omega (arith, pow-le-pow_right two w.members_high)));
       }

@@ -9,11 +9,11 @@ use borrow.Author.Tests.{lt-ltb, le-ltb}
 use Rattle.ranges.proofs.Looks.{by_three}
 use Rattle.codec.specs.Scan.{Ranges}
 
-pub tops-none : {pages : ℕ} → Ranges 0 pages (replicate 8 0)
-tops-none = record { long = refl; is = λ i h. rw (le-ltb i 0 (omega arith)) (get_or-replicate 8 i 0 0 h) }
+pub tops_none : {pages : ℕ} → Ranges 0 pages (replicate 8 0)
+tops_none = record { long = refl; is = λ i h. rw (le-ltb i 0 (omega arith)) (get_or-replicate 8 i 0 0 h) }
 
-pub tops-more : {m pages : ℕ} {tops : List ℕ} → Ranges m pages tops → m < 8 → Ranges (m + 1) pages (set tops m pages)
-tops-more {m} {pages} {tops} r h =
+pub tops_more : {m pages : ℕ} {tops : List ℕ} → Ranges m pages tops → m < 8 → Ranges (m + 1) pages (set tops m pages)
+tops_more {m} {pages} {tops} r h =
     record {
       long = rw length-set r.long;
       is = λ i low. by_three i m

@@ -1,10 +1,10 @@
 -- What the checks look at, many pages or records at once.
 use Rattle.std.specs.Prelude.{ℕ, ◌+◌, ◌-◌, ◌*◌, ◌/◌, ◌%◌, ◌<◌, ◌≡◌, Bool, not, cond, ◌&&◌, ◌||◌, List, ◌≢◌, length, get_or, ltb, eqb}
-use Rattle.bytes.specs.Number.{number}
-use Rattle.bytes.specs.Units.{part}
-use Rattle.ranges.specs.Look.{countBelow}
+use Rattle.octets.specs.Number.{number}
+use Rattle.octets.specs.Units.{part}
+use Rattle.ranges.specs.Look.{count_below}
 use Rattle.layout.specs.Layout.{Layout, none, is_none, pages}
-use Rattle.layout.specs.Page.{Page, isCleanKind}
+use Rattle.layout.specs.Page.{Page, is_clean_kind}
 use Rattle.layout.specs.Record.{Record, no_slot}
 
 -- ---- the stamps of pages
@@ -18,8 +18,8 @@ abbrev pub tag_of : ℕ → ℕ → ℕ
 tag_of k m = k + 256 * m
 
 -- the page with this tag is clean
-abbrev pub cleanTag : ℕ → Bool
-cleanTag t = isCleanKind (t % 256)
+abbrev pub clean_tag : ℕ → Bool
+clean_tag t = is_clean_kind (t % 256)
 
 -- the tags and stripes of so many pages from the first on, with the chip's pages x
 pub record StampsOf (x : ℕ → Page) (first count : ℕ) (tags stripes : List ℕ) : Type 0 where
@@ -29,18 +29,18 @@ pub record StampsOf (x : ℕ → Page) (first count : ℕ) (tags stripes : List 
 -- ---- the numbers of a record
 
 -- the numbers of a record by their index: the current pages, from here on the old ones, here the parity page; and what is no index
-abbrev pub firstOld : ℕ
-firstOld = 6
+abbrev pub first_old : ℕ
+first_old = 6
 
-abbrev pub lastNumber : ℕ
-lastNumber = 12
+abbrev pub last_number : ℕ
+last_number = 12
 
-abbrev pub noIndex : ℕ
-noIndex = 255
+abbrev pub no_index : ℕ
+no_index = 255
 
 -- number i of a record
 unfoldable pub number_of : Record → ℕ → ℕ
-number_of r i = cond (ltb i firstOld) (r.current i) (cond (ltb i lastNumber) (r.old (i - firstOld)) r.parity)
+number_of r i = cond (ltb i first_old) (r.current i) (cond (ltb i last_number) (r.old (i - first_old)) r.parity)
 
 -- the first n numbers may be none or any page, and the others only none
 pub record Ranges (n pages : ℕ) (tops : List ℕ) : Type 0 where
@@ -60,8 +60,8 @@ abbrev pub is_written : ℕ → ℕ → Bool
 is_written top x = ltb x top || (eqb x 65535 && eqb top 0)
 
 -- so is number i of the record at offset a
-abbrev pub writtenIn : List ℕ → List ℕ → ℕ → ℕ → Bool
-writtenIn tops xs a i = is_written (get_or tops i 0) (number_in xs a i)
+abbrev pub written_in : List ℕ → List ℕ → ℕ → ℕ → Bool
+written_in tops xs a i = is_written (get_or tops i 0) (number_in xs a i)
 
 -- r is the four numbers from offset a on, as one; each has two bytes
 pub record WordAt (xs : List ℕ) (a r : ℕ) : Type 0 where
@@ -85,8 +85,8 @@ module _ (l : Layout) (e : Record) where
   open l use {N}
 
   -- the record has a current page of member m
-  abbrev pub currentGiven : ℕ → Bool
-  currentGiven m = not (is_none l (e.current m))
+  abbrev pub current_given : ℕ → Bool
+  current_given m = not (is_none l (e.current m))
 
   -- a record with nothing in the partial parity: a current page is a member's, under a parity page, and there is no old one; it has so
   -- many page numbers
@@ -97,4 +97,4 @@ module _ (l : Layout) (e : Record) where
     pub bitmap : e.bitmap ≡ 0
     pub slot : e.slot ≡ no_slot
     pub rest : e.rest ≡ 0
-    pub counted : names ≡ countBelow 6 currentGiven + cond (is_none l e.parity) 0 1
+    pub counted : names ≡ count_below 6 current_given + cond (is_none l e.parity) 0 1

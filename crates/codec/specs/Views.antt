@@ -1,9 +1,9 @@
 -- The code's own structs as the definitions see them.
 use Rattle.std.specs.Prelude.{ℕ, ◌+◌, ◌<◌, cond, ◌≡◌, List, [], ◌∷◌, ◌++◌, get_or, replicate, ltb}
-use Rattle.bytes.specs.Number.{number, digits}
-use Rattle.bytes.specs.Units.{part}
+use Rattle.octets.specs.Number.{number, digits}
+use Rattle.octets.specs.Units.{part}
 use Rattle.layout.specs.Layout.{Layout, none}
-use Rattle.layout.specs.Page.{Page, blankTail}
+use Rattle.layout.specs.Page.{Page, blank_tail}
 use Rattle.layout.specs.Record.{Record}
 use Rattle.layout.specs.Collection.{Collection}
 use Rattle.codec.specs.declared.StripeRecord.{StripeRecord}
@@ -12,15 +12,15 @@ use Rattle.codec.specs.declared.Spare.{Spare}
 
 module _ (l : Layout) where
   -- six numbers, and none beyond them
-  unfoldable pub sixOf : List ℕ → ℕ → ℕ
-  sixOf xs m = cond (ltb m 6) (get_or xs m 0) (none l)
+  unfoldable pub six_of : List ℕ → ℕ → ℕ
+  six_of xs m = cond (ltb m 6) (get_or xs m 0) (none l)
 
   -- the record that the code's struct stands for; the bytes after it are 0
-  unfoldable pub recordFrom : StripeRecord → Record
-  recordFrom e =
+  unfoldable pub record_from : StripeRecord → Record
+  record_from e =
       record {
-        current = sixOf e.current;
-        old = sixOf e.old;
+        current = six_of e.current;
+        old = six_of e.old;
         parity = e.parity;
         bitmap = e.bitmap;
         slot = e.slot;
@@ -32,8 +32,8 @@ unfoldable pub ended : Record → Record
 ended r = record { current = r.current; old = r.old; parity = r.parity; bitmap = r.bitmap; slot = r.slot; rest = 0 }
 
 -- the collection record that the code's struct stands for; the bytes after it are 0
-abbrev pub collectionFrom : CollectionRecord → Collection
-collectionFrom co =
+abbrev pub collection_from : CollectionRecord → Collection
+collection_from co =
     record {
       phase = co.phase;
       chip = co.chip;
@@ -47,24 +47,24 @@ abbrev pub spare_of : Page → Spare
 spare_of x = record { kind = x.kind; member = x.member; stripe = x.stripe; copied = x.copied }
 
 -- the page that is programmed with some data and a spare
-abbrev pub pageFrom : Layout → List ℕ → Spare → Page
-pageFrom l xs t =
+abbrev pub page_from : Layout → List ℕ → Spare → Page
+page_from l xs t =
     record {
       bytes = xs;
       kind = t.kind;
       member = t.member;
       stripe = t.stripe;
       copied = t.copied;
-      tail = blankTail l;
+      tail = blank_tail l;
     }
 
 -- its spare bytes
-abbrev pub spareFrom : Spare → List ℕ
-spareFrom t = t.kind ∷ t.member ∷ (digits 2 t.stripe ++ (digits 2 t.copied ++ replicate 2 255))
+abbrev pub spare_from : Spare → List ℕ
+spare_from t = t.kind ∷ t.member ∷ (digits 2 t.stripe ++ (digits 2 t.copied ++ replicate 2 255))
 
 -- the six numbers of two bytes at offset a
-abbrev pub sixAt : ℕ → List ℕ → List ℕ
-sixAt a xs =
+abbrev pub six_at : ℕ → List ℕ → List ℕ
+six_at a xs =
     number (part a 2 xs)
     ∷ number (part (a + 2) 2 xs)
     ∷ number (part (a + 4) 2 xs)
@@ -94,7 +94,7 @@ pub record CollectionIs (t : CollectionRecord) (co : Collection) : Type 0 where
   pub chip : t.chip ≡ co.chip
   pub victim : t.victim ≡ co.victim
   pub destination : t.destination ≡ co.destination
-  pub phase-small : t.phase < 256
-  pub chip-small : t.chip < 256
-  pub victim-small : t.victim < 65536
-  pub destination-small : t.destination < 65536
+  pub phase_small : t.phase < 256
+  pub chip_small : t.chip < 256
+  pub victim_small : t.victim < 65536
+  pub destination_small : t.destination < 65536

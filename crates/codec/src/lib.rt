@@ -7,16 +7,16 @@ pub mod scan;
 
 ghost use Rattle.std.specs.Prelude.{◌≡◌, ◌≢◌, true, ℕ, ◌+◌, ◌*◌, ◌/◌, ◌%◌, ◌^◌, ◌≤◌, ◌<◌, length, get_or, eqb};
 ghost use Rattle.layout.specs.Layout.{Layout, layout_of, limits, pages};
-ghost use Rattle.layout.specs.Rotation.{parityChip, memberChip, memberOn};
-ghost use Rattle.layout.specs.Page.{isCleanKind, clean, pageAt};
-ghost use Rattle.layout.specs.Record.{recordAt};
-ghost use Rattle.layout.specs.Collection.{collectionAt};
-ghost use Rattle.layout.specs.Images.{slotAt, chipsLength};
+ghost use Rattle.layout.specs.Rotation.{parity_chip, member_chip, member_on};
+ghost use Rattle.layout.specs.Page.{is_clean_kind, clean, page_at};
+ghost use Rattle.layout.specs.Record.{record_at};
+ghost use Rattle.layout.specs.Collection.{collection_at};
+ghost use Rattle.layout.specs.Images.{slot_at, chips_length};
 ghost use Rattle.codec.specs.Fit.{ChipsFit, RecordsFit, SlotsFit};
-ghost use Rattle.codec.specs.Views.{recordFrom, ended, spare_of, sixAt, SmallRecord, SmallSpare, CollectionIs};
+ghost use Rattle.codec.specs.Views.{record_from, ended, spare_of, six_at, SmallRecord, SmallSpare, CollectionIs};
 
-use bytes::{byte, number_at, zeros};
 use layout::Geometry;
+use octets::{byte, number_at, zeros};
 
 // The bytes of a page number, and the number of no page.
 const WIDTH: usize = 2;
@@ -106,7 +106,7 @@ pub struct Spare {
 // The chip with the parity of stripe j.
 pub fn parity_chip(g: Geometry, j: usize) -> usize
     requires { limits (layout_of g) ≡ true }
-    ensures { (result ≡ parityChip (layout_of g) j) × (result ≤ g.n) }
+    ensures { (result ≡ parity_chip (layout_of g) j) × (result ≤ g.n) }
 {
     // a remainder by a constant takes no division
     match g.n as usize {
@@ -121,7 +121,7 @@ pub fn parity_chip(g: Geometry, j: usize) -> usize
 // The chip of member m of a stripe whose parity is on chip `parity`.
 pub fn chip_beside(parity: usize, m: usize) -> usize
     requires { m < 6 }
-    ensures { ((l : Layout) (j : ℕ) → parity ≡ parityChip l j → result ≡ memberChip l j m) × (result ≤ m + 1) }
+    ensures { ((l : Layout) (j : ℕ) → parity ≡ parity_chip l j → result ≡ member_chip l j m) × (result ≤ m + 1) }
 {
     if m < parity { m } else { m + 1 }
 }
@@ -129,7 +129,7 @@ pub fn chip_beside(parity: usize, m: usize) -> usize
 // The chip of member m of stripe j.
 pub fn member_chip(g: Geometry, j: usize, m: usize) -> usize
     requires { (limits (layout_of g) ≡ true) × (m < g.n) }
-    ensures { (result ≡ memberChip (layout_of g) j m) × (result ≤ g.n) }
+    ensures { (result ≡ member_chip (layout_of g) j m) × (result ≤ g.n) }
 {
     chip_beside(parity_chip(g, j), m)
 }
@@ -137,7 +137,7 @@ pub fn member_chip(g: Geometry, j: usize, m: usize) -> usize
 // The member on chip c of a stripe whose parity is on chip `parity`, another one.
 pub fn member_on(g: Geometry, parity: usize, c: usize) -> usize
     requires { (limits (layout_of g) ≡ true) × (c ≤ g.n) × (parity ≤ g.n) × (c ≢ parity) }
-    ensures { ((j : ℕ) → parity ≡ parityChip (layout_of g) j → result ≡ memberOn (layout_of g) j c) × (result < g.n) × (result < 6) }
+    ensures { ((j : ℕ) → parity ≡ parity_chip (layout_of g) j → result ≡ member_on (layout_of g) j c) × (result < g.n) × (result < 6) }
 {
     if c < parity { c } else { c - 1 }
 }
@@ -145,7 +145,7 @@ pub fn member_on(g: Geometry, parity: usize, c: usize) -> usize
 // The offset of page p of chip c in the chip image.
 fn page_offset(g: Geometry, c: usize, p: usize) -> usize
     requires { (limits (layout_of g) ≡ true) × (c ≤ g.n) × (p < pages (layout_of g)) }
-    ensures { (result ≡ (c * pages (layout_of g) + p) * (g.w + 8)) × (result + (g.w + 8) ≤ chipsLength (layout_of g)) }
+    ensures { (result ≡ (c * pages (layout_of g) + p) * (g.w + 8)) × (result + (g.w + 8) ≤ chips_length (layout_of g)) }
 {
     let b = g.b as usize;
     let k = g.k as usize;
@@ -156,7 +156,7 @@ fn page_offset(g: Geometry, c: usize, p: usize) -> usize
 // What the spare bytes of page p of chip c say.
 pub fn spare_at(chips: &[u8], g: Geometry, c: usize, p: usize) -> Spare
     requires { ChipsFit g chips.now × (c ≤ g.n) × (p < pages (layout_of g)) }
-    ensures { (result ≡ spare_of (pageAt (layout_of g) chips.now c p)) × SmallSpare result }
+    ensures { (result ≡ spare_of (page_at (layout_of g) chips.now c p)) × SmallSpare result }
 {
     let w = g.w as usize;
     let a = page_offset(g, c, p) + w;
@@ -170,7 +170,7 @@ pub fn spare_at(chips: &[u8], g: Geometry, c: usize, p: usize) -> Spare
 
 // Whether a page of this kind is clean.
 fn is_clean_kind(kind: u16) -> bool
-    ensures { result ≡ isCleanKind kind }
+    ensures { result ≡ is_clean_kind kind }
 {
     kind == CLEAN
 }
@@ -178,7 +178,7 @@ fn is_clean_kind(kind: u16) -> bool
 // Whether page p of chip c is clean.
 pub fn is_clean(chips: &[u8], g: Geometry, c: usize, p: usize) -> bool
     requires { ChipsFit g chips.now × (c ≤ g.n) × (p < pages (layout_of g)) }
-    ensures { result ≡ clean (pageAt (layout_of g) chips.now c p) }
+    ensures { result ≡ clean (page_at (layout_of g) chips.now c p) }
 {
     let w = g.w as usize;
     is_clean_kind(byte(chips, page_offset(g, c, p) + w) as u16)
@@ -187,7 +187,7 @@ pub fn is_clean(chips: &[u8], g: Geometry, c: usize, p: usize) -> bool
 // The data of page p of chip c.
 pub fn page_data(chips: &[u8], g: Geometry, c: usize, p: usize) -> &[u8]
     requires { ChipsFit g chips.now × (c ≤ g.n) × (p < pages (layout_of g)) }
-    ensures { (result.now ≡ (pageAt (layout_of g) chips.now c p).bytes) × (length result.now ≡ g.w) }
+    ensures { (result.now ≡ (page_at (layout_of g) chips.now c p).bytes) × (length result.now ≡ g.w) }
 {
     let w = g.w as usize;
     let a = page_offset(g, c, p);
@@ -198,7 +198,7 @@ pub fn page_data(chips: &[u8], g: Geometry, c: usize, p: usize) -> &[u8]
 // Slot i.
 pub fn slot_data(slots: &[u8], g: Geometry, i: usize) -> &[u8]
     requires { SlotsFit g slots.now × (i ≤ g.m) }
-    ensures { (result.now ≡ slotAt (layout_of g) slots.now i) × (length result.now ≡ g.w) }
+    ensures { (result.now ≡ slot_at (layout_of g) slots.now i) × (length result.now ≡ g.w) }
 {
     let w = g.w as usize;
     let a = i * w;
@@ -209,7 +209,7 @@ pub fn slot_data(slots: &[u8], g: Geometry, i: usize) -> &[u8]
 // The six numbers of two bytes at offset a.
 fn six_at(s: &[u8], a: usize) -> [usize; 6]
     requires { a + 12 ≤ length s.now }
-    ensures { (result ≡ sixAt a s.now) × ((m : ℕ) → get_or result m 0 < 65536) }
+    ensures { (result ≡ six_at a s.now) × ((m : ℕ) → get_or result m 0 < 65536) }
 {
     [
         number_at(s, a),
@@ -224,7 +224,7 @@ fn six_at(s: &[u8], a: usize) -> [usize; 6]
 // The record of stripe j, but for the zeros behind it.
 pub fn record_at(records: &[u8], g: Geometry, j: usize) -> StripeRecord
     requires { RecordsFit g records.now × (j < g.s) }
-    ensures { (recordFrom (layout_of g) result ≡ ended (recordAt (layout_of g) records.now j)) × SmallRecord result }
+    ensures { (record_from (layout_of g) result ≡ ended (record_at (layout_of g) records.now j)) × SmallRecord result }
 {
     let a = j * RECORD_BYTES;
     StripeRecord {
@@ -239,7 +239,7 @@ pub fn record_at(records: &[u8], g: Geometry, j: usize) -> StripeRecord
 // Whether the bytes behind the record of stripe j are zeros.
 pub fn record_ends(records: &[u8], g: Geometry, j: usize) -> bool
     requires { RecordsFit g records.now × (j < g.s) }
-    ensures { result ≡ eqb (recordAt (layout_of g) records.now j).rest 0 }
+    ensures { result ≡ eqb (record_at (layout_of g) records.now j).rest 0 }
 {
     let a = j * RECORD_BYTES + REST_AT;
     let e = a + REST_BYTES;
@@ -249,7 +249,7 @@ pub fn record_ends(records: &[u8], g: Geometry, j: usize) -> bool
 // The bitmap of stripe j.
 pub fn bitmap_at(records: &[u8], g: Geometry, j: usize) -> usize
     requires { RecordsFit g records.now × (j < g.s) }
-    ensures { (result ≡ (recordAt (layout_of g) records.now j).bitmap) × (result < 256) }
+    ensures { (result ≡ (record_at (layout_of g) records.now j).bitmap) × (result < 256) }
 {
     byte(records, j * RECORD_BYTES + BITMAP_AT)
 }
@@ -257,7 +257,7 @@ pub fn bitmap_at(records: &[u8], g: Geometry, j: usize) -> usize
 // The slot of stripe j.
 pub fn slot_at(records: &[u8], g: Geometry, j: usize) -> usize
     requires { RecordsFit g records.now × (j < g.s) }
-    ensures { (result ≡ (recordAt (layout_of g) records.now j).slot) × (result < 256) }
+    ensures { (result ≡ (record_at (layout_of g) records.now j).slot) × (result < 256) }
 {
     byte(records, j * RECORD_BYTES + SLOT_AT)
 }
@@ -265,7 +265,7 @@ pub fn slot_at(records: &[u8], g: Geometry, j: usize) -> usize
 // The collection record, but for the zeros behind it.
 pub fn collection_at(records: &[u8], g: Geometry) -> CollectionRecord
     requires { RecordsFit g records.now }
-    ensures { CollectionIs result (collectionAt (layout_of g) records.now) }
+    ensures { CollectionIs result (collection_at (layout_of g) records.now) }
 {
     let s = g.s as usize;
     let a = s * RECORD_BYTES;
@@ -280,7 +280,7 @@ pub fn collection_at(records: &[u8], g: Geometry) -> CollectionRecord
 // Whether the bytes behind the collection record are zeros.
 pub fn collection_ends(records: &[u8], g: Geometry) -> bool
     requires { RecordsFit g records.now }
-    ensures { result ≡ eqb (collectionAt (layout_of g) records.now).rest 0 }
+    ensures { result ≡ eqb (collection_at (layout_of g) records.now).rest 0 }
 {
     let s = g.s as usize;
     let a = s * RECORD_BYTES + ZEROS_AT;

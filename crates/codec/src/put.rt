@@ -1,24 +1,24 @@
 //! Pages, slots and records put into their images.
 
 ghost use Rattle.std.specs.Prelude.{◌≡◌, ◌+◌, ◌*◌, ◌≤◌, ◌<◌, length, get_or, replicate};
-ghost use Rattle.bytes.specs.Number.{digits};
-ghost use Rattle.bytes.specs.Units.{put, unitPut};
-ghost use Rattle.layout.specs.Layout.{layout_of, pages, pageBytes, recordBytes};
-ghost use Rattle.layout.specs.Page.{bytesOfPage};
-ghost use Rattle.layout.specs.Record.{row, bytesOfRecord, emptyRecord};
-ghost use Rattle.layout.specs.Collection.{bytesOfCollection};
+ghost use Rattle.octets.specs.Number.{digits};
+ghost use Rattle.octets.specs.Units.{put, unit_put};
+ghost use Rattle.layout.specs.Layout.{layout_of, pages, page_bytes, record_bytes};
+ghost use Rattle.layout.specs.Page.{bytes_of_page};
+ghost use Rattle.layout.specs.Record.{row, bytes_of_record, empty_record};
+ghost use Rattle.layout.specs.Collection.{bytes_of_collection};
 ghost use Rattle.steps.specs.Store.{programmed, erased, recorded};
 ghost use Rattle.codec.specs.Fit.{ChipsFit, RecordsFit, SlotsFit};
-ghost use Rattle.codec.specs.Firsts.{firstUnits};
-ghost use Rattle.codec.specs.Views.{recordFrom, collectionFrom, pageFrom, spareFrom, SmallRecord, SmallSpare};
+ghost use Rattle.codec.specs.Firsts.{first_units};
+ghost use Rattle.codec.specs.Views.{record_from, collection_from, page_from, spare_from, SmallRecord, SmallSpare};
 
 use super::{
     BITMAP_AT, CHIP_AT, COPIED_AT, CollectionRecord, DESTINATION_AT, MEMBER_AT, OLD_AT, PARITY_AT,
     RECORD_BYTES, REST_AT, REST_BYTES, SHORT, SLOT_AT, SPARE_BYTES, STRIPE_AT, Spare, StripeRecord,
     TAIL, TAIL_AT, TAIL_BYTES, VICTIM_AT, WIDTH, ZEROS, ZEROS_AT, page_offset,
 };
-use bytes::{copy, fill};
 use layout::Geometry;
+use octets::{copy, fill};
 
 // What an erase makes of every byte.
 const ERASED: u8 = 255;
@@ -58,7 +58,7 @@ fn put_six(dst: &mut [u8], a: usize, xs: [usize; 6])
 // The bytes of a record.
 fn fill_record(dst: &mut [u8], e: StripeRecord)
     requires { (length dst.old ≡ 32) × SmallRecord e }
-    ensures { (g : Geometry) → dst.new ≡ bytesOfRecord (layout_of g) (recordFrom (layout_of g) e) }
+    ensures { (g : Geometry) → dst.new ≡ bytes_of_record (layout_of g) (record_from (layout_of g) e) }
 {
     let current = e.current;
     let old = e.old;
@@ -73,7 +73,7 @@ fn fill_record(dst: &mut [u8], e: StripeRecord)
 // The bytes of a collection record.
 fn fill_collection(dst: &mut [u8], co: CollectionRecord)
     requires { (length dst.old ≡ 32) × (co.phase < 256) × (co.chip < 256) }
-    ensures { (g : Geometry) → dst.new ≡ bytesOfCollection (layout_of g) (collectionFrom co) }
+    ensures { (g : Geometry) → dst.new ≡ bytes_of_collection (layout_of g) (collection_from co) }
 {
     put_number(dst, 0, 1, co.phase);
     put_number(dst, CHIP_AT, 1, co.chip);
@@ -85,7 +85,7 @@ fn fill_collection(dst: &mut [u8], co: CollectionRecord)
 // The spare bytes of a page.
 fn fill_spare(dst: &mut [u8], t: Spare)
     requires { (length dst.old ≡ 8) × SmallSpare t }
-    ensures { dst.new ≡ spareFrom t }
+    ensures { dst.new ≡ spare_from t }
 {
     put_number(dst, 0, 1, t.kind);
     put_number(dst, MEMBER_AT, 1, t.member);
@@ -97,7 +97,7 @@ fn fill_spare(dst: &mut [u8], t: Spare)
 // The page becomes the data and the spare bytes.
 fn fill_page(page: &mut [u8], bytes: &[u8], t: Spare)
     requires { (length page.old ≡ length bytes.now + 8) × SmallSpare t }
-    ensures { (g : Geometry) → page.new ≡ bytesOfPage (layout_of g) (pageFrom (layout_of g) bytes.now t) }
+    ensures { (g : Geometry) → page.new ≡ bytes_of_page (layout_of g) (page_from (layout_of g) bytes.now t) }
 {
     let w = bytes.len();
     let e = w + SPARE_BYTES;
@@ -108,7 +108,7 @@ fn fill_page(page: &mut [u8], bytes: &[u8], t: Spare)
 // Page p of chip c becomes the data and the spare bytes.
 pub fn put_page(chips: &mut [u8], g: Geometry, c: usize, p: usize, bytes: &[u8], t: Spare)
     requires { ChipsFit g chips.old × (c ≤ g.n) × (p < pages (layout_of g)) × (length bytes.now ≡ g.w) × SmallSpare t }
-    ensures { chips.new ≡ programmed (layout_of g) c p (pageFrom (layout_of g) bytes.now t) chips.old }
+    ensures { chips.new ≡ programmed (layout_of g) c p (page_from (layout_of g) bytes.now t) chips.old }
 {
     let w = g.w as usize;
     let a = page_offset(g, c, p);
@@ -131,7 +131,7 @@ pub fn put_clean_block(chips: &mut [u8], g: Geometry, c: usize, b: usize)
 // The first n blocks of the image become clean: chips stand end to end.
 pub fn put_clean_blocks(chips: &mut [u8], g: Geometry, n: usize)
     requires { ChipsFit g chips.old × (n ≤ (g.n + 1) * g.b) }
-    ensures { chips.new ≡ firstUnits (g.k * pageBytes (layout_of g)) n (replicate (g.k * pageBytes (layout_of g)) 255) chips.old }
+    ensures { chips.new ≡ first_units (g.k * page_bytes (layout_of g)) n (replicate (g.k * page_bytes (layout_of g)) 255) chips.old }
 {
     let k = g.k as usize;
     let w = g.w as usize;
@@ -142,7 +142,7 @@ pub fn put_clean_blocks(chips: &mut [u8], g: Geometry, n: usize)
 // Slot i becomes the bytes.
 pub fn put_slot(slots: &mut [u8], g: Geometry, i: usize, bytes: &[u8])
     requires { SlotsFit g slots.old × (i ≤ g.m) × (length bytes.now ≡ g.w) }
-    ensures { slots.new ≡ unitPut g.w i bytes.now slots.old }
+    ensures { slots.new ≡ unit_put g.w i bytes.now slots.old }
 {
     let w = g.w as usize;
     let a = i * w;
@@ -153,7 +153,7 @@ pub fn put_slot(slots: &mut [u8], g: Geometry, i: usize, bytes: &[u8])
 // The record of stripe j.
 pub fn put_record(records: &mut [u8], g: Geometry, j: usize, r: StripeRecord)
     requires { RecordsFit g records.old × (j < g.s) × SmallRecord r }
-    ensures { records.new ≡ recorded (layout_of g) j (bytesOfRecord (layout_of g) (recordFrom (layout_of g) r)) records.old }
+    ensures { records.new ≡ recorded (layout_of g) j (bytes_of_record (layout_of g) (record_from (layout_of g) r)) records.old }
 {
     let a = j * RECORD_BYTES;
     let e = a + RECORD_BYTES;
@@ -163,7 +163,7 @@ pub fn put_record(records: &mut [u8], g: Geometry, j: usize, r: StripeRecord)
 // The collection record.
 pub fn put_collection(records: &mut [u8], g: Geometry, co: CollectionRecord)
     requires { RecordsFit g records.old × (co.phase < 256) × (co.chip < 256) }
-    ensures { records.new ≡ recorded (layout_of g) g.s (bytesOfCollection (layout_of g) (collectionFrom co)) records.old }
+    ensures { records.new ≡ recorded (layout_of g) g.s (bytes_of_collection (layout_of g) (collection_from co)) records.old }
 {
     let s = g.s as usize;
     let a = s * RECORD_BYTES;
@@ -178,7 +178,7 @@ const EMPTY: [u8; 32] =
 // The first n records become empty.
 pub fn put_empty_records(records: &mut [u8], g: Geometry, n: usize)
     requires { RecordsFit g records.old × (n ≤ g.s) }
-    ensures { records.new ≡ firstUnits (recordBytes (layout_of g)) n (bytesOfRecord (layout_of g) (emptyRecord (layout_of g))) records.old }
+    ensures { records.new ≡ first_units (record_bytes (layout_of g)) n (bytes_of_record (layout_of g) (empty_record (layout_of g))) records.old }
 {
     let mut j = 0;
     while j < n {

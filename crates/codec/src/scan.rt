@@ -3,17 +3,17 @@
 ghost use Rattle.std.specs.Prelude.{◌≡◌, true, List, ℕ, ◌+◌, ◌*◌, ◌≤◌, ◌<◌, length, get_or};
 ghost use Rattle.ranges.specs.Look.{all_below};
 ghost use Rattle.layout.specs.Layout.{layout_of, limits, pages};
-ghost use Rattle.layout.specs.Page.{pageAt};
-ghost use Rattle.layout.specs.Record.{recordAt};
+ghost use Rattle.layout.specs.Page.{page_at};
+ghost use Rattle.layout.specs.Record.{record_at};
 ghost use Rattle.codec.specs.Fit.{ChipsFit, RecordsFit};
-ghost use Rattle.codec.specs.Scan.{TagIs, tag_of, cleanTag, StampsOf, lastNumber, number_of, Ranges, WordAt, Clear, writtenIn, Plain};
+ghost use Rattle.codec.specs.Scan.{TagIs, tag_of, clean_tag, StampsOf, last_number, number_of, Ranges, WordAt, Clear, written_in, Plain};
 
 use crate::{
     MEMBER_AT, NONE, PARITY_AT, RECORD_BYTES, SPARE_BYTES, STRIPE_AT, WIDTH, is_clean_kind,
     page_offset,
 };
-use bytes::{byte, number_at};
 use layout::Geometry;
+use octets::{byte, number_at};
 
 // The numbers of a record by their index: from 0 on the current pages, then the old ones, then the parity page. No index stands for no
 // number.
@@ -25,8 +25,8 @@ pub const NO_INDEX: usize = 255;
 
 // Number i of the record of stripe j.
 pub fn number_in(records: &[u8], g: Geometry, j: usize, i: usize) -> usize
-    requires { RecordsFit g records.now × (j < g.s) × (i ≤ lastNumber) }
-    ensures { (result ≡ number_of (recordAt (layout_of g) records.now j) i) × (result < 65536) }
+    requires { RecordsFit g records.now × (j < g.s) × (i ≤ last_number) }
+    ensures { (result ≡ number_of (record_at (layout_of g) records.now j) i) × (result < 65536) }
 {
     number_at(records, j * RECORD_BYTES + WIDTH * i)
 }
@@ -41,7 +41,7 @@ pub fn tag_of(kind: u16, member: u16) -> u16
 
 // Whether the page with this tag is clean.
 pub fn is_clean_tag(tag: u16) -> bool
-    ensures { result ≡ cleanTag tag }
+    ensures { result ≡ clean_tag tag }
 {
     is_clean_kind(tag % 256)
 }
@@ -67,7 +67,7 @@ pub fn fetch_stamps(
 )
     requires { ChipsFit g chips.now × (c ≤ g.n) × (first < pages (layout_of g)) × (first + count ≤ pages (layout_of g)) × (count ≤ 128)
         × (length tags.old ≡ 128) × (length stripes.old ≡ 128) }
-    ensures { StampsOf (pageAt (layout_of g) chips.now c) first count tags.new stripes.new
+    ensures { StampsOf (page_at (layout_of g) chips.now c) first count tags.new stripes.new
         × (length tags.new ≡ 128) × (length stripes.new ≡ 128) }
 {
     let w = g.w as usize;
@@ -125,7 +125,7 @@ fn word_at(s: &[u8], a: usize) -> usize
 // it has no pages.
 fn all_written(records: &[u8], a: usize, tops: &[u16; 8]) -> bool
     requires { a + 16 ≤ length records.now }
-    ensures { result ≡ all_below 8 (writtenIn tops.now records.now a) }
+    ensures { result ≡ all_below 8 (written_in tops.now records.now a) }
 {
     let mut written = true;
     let mut i = 0;
@@ -170,7 +170,7 @@ fn is_clear(end: Ending) -> bool
 // stripe j so, its record has one page number for each chip; where it does not, nothing is known.
 pub fn seen_full(records: &[u8], g: Geometry, j: usize, tops: &[u16; 8]) -> bool
     requires { RecordsFit g records.now × (j < g.s) × Ranges g.n (g.b * g.k) tops.now }
-    ensures { result ≡ true → Plain (layout_of g) (recordAt (layout_of g) records.now j) (g.n + 1) }
+    ensures { result ≡ true → Plain (layout_of g) (record_at (layout_of g) records.now j) (g.n + 1) }
 {
     let a = j * RECORD_BYTES;
     let pages = (g.b * g.k) as usize;
@@ -190,7 +190,7 @@ pub struct Glance {
 // A second look, at the record of a stripe that is not full.
 pub fn glance_at(records: &[u8], g: Geometry, j: usize, tops: &[u16; 8]) -> Glance
     requires { RecordsFit g records.now × (j < g.s) × Ranges g.n (g.b * g.k) tops.now }
-    ensures { result.plain ≡ true → Plain (layout_of g) (recordAt (layout_of g) records.now j) result.names }
+    ensures { result.plain ≡ true → Plain (layout_of g) (record_at (layout_of g) records.now j) result.names }
 {
     let a = j * RECORD_BYTES;
     let pages = (g.b * g.k) as usize;

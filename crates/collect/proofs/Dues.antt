@@ -19,9 +19,9 @@ use Rattle.codec.specs.declared.Spare.{Spare}
 use Rattle.codec.specs.Views.{spare_of}
 
 -- a page number is small
-pub pages-small : (g : Geometry) → limits (layout_of g) ≡ true → pages (layout_of g) ≤ 65535
+pub pages_small : (g : Geometry) → limits (layout_of g) ≡ true → pages (layout_of g) ≤ 65535
 unfolding none
-pages-small g limited = (within (layout_of g) limited).pages-numbered
+pages_small g limited = (within (layout_of g) limited).pages_numbered
 
 -- the code's test that page p stands before page a, or not before page b
 abbrev beside : ℕ → ℕ → ℕ → Bool
@@ -33,8 +33,8 @@ between a b p e =
     let h = neither (ltb p a) (leb b p) e in (ltb-false p a h.0, leb-false b p h.1)
 
 -- where it holds, the page does not
-not-between : (a b p : ℕ) → beside a b p ≡ true → leb a p && ltb p b ≡ false
-not-between a b p t = by_order p a
+not_between : (a b p : ℕ) → beside a b p ≡ true → leb a p && ltb p b ≡ false
+not_between a b p t = by_order p a
     (λ h. rw (lt-leb a p h))
     (λ h. let past : leb b p ≡ true = rw (le-ltb p a h) at t in rw (le-ltb p b (leb-true b p past), and-false))
 
@@ -46,19 +46,19 @@ module _ (l : Layout) (co : Collection) (x : ℕ → Page) (r : ℕ → Record) 
   copied = ap (λ (s : Spare). s.copied) spare
 
   -- a page is not due where its original stands outside the victim
-  pub not-due : beside (v * K) (v * K + K) t.copied ≡ true → false ≡ due l co x r q
+  pub not_due : beside (v * K) (v * K + K) t.copied ≡ true → false ≡ due l co x r q
   unfolding due
-  not-due e =
+  not_due e =
       let away : in_block l co.victim (x q).copied ≡ false =
-      not-between (co.victim * K) (co.victim * K + K) (x q).copied (rw (copied, victim) at e) in
+      not_between (co.victim * K) (co.victim * K + K) (x q).copied (rw (copied, victim) at e) in
       rw away
 
   -- else it is due where the other tests pass, with the spare u of the original
-  pub due-test : beside (v * K) (v * K + K) t.copied ≡ false
+  pub due_test : beside (v * K) (v * K + K) t.copied ≡ false
       → (u : Spare) (c : ℕ) (n m : Bool) → u ≡ spare_of (x t.copied) → c ≡ co.chip → n ≡ named l r c t.copied → m ≡ named l r c q
       → n && (eqb t.kind u.kind && eqb t.member u.member && eqb t.stripe u.stripe && not m) ≡ due l co x r q
   unfolding due twin
-  due-test e u c n m original chip is-n is_m =
+  due_test e u c n m original chip is-n is_m =
       let (low, high) = between (co.victim * K) (co.victim * K + K) (x q).copied (rw (copied, victim) at e) in
       rw (
         is-n,

@@ -8,164 +8,164 @@ use mathlib.Core.List.{List, [], ◌∷◌}
 use lib.ListN.{length}
 use borrow.Author.Tests.{eq-eqb, ne_eqb}
 use Rattle.layout.specs.declared.Geometry.{Geometry}
-use Rattle.layout.specs.Layout.{Layout, layout_of, pages, pageIn, noChip}
-use Rattle.layout.specs.Page.{pageAt}
-use Rattle.layout.specs.Record.{recordAt}
-use Rattle.layout.specs.Collection.{Collection, collectionAt}
-use Rattle.layout.specs.Images.{Images, slotsLength}
-use Rattle.layout.proofs.Pages.{page-in-fits}
+use Rattle.layout.specs.Layout.{Layout, layout_of, pages, page_in, no_chip}
+use Rattle.layout.specs.Page.{page_at}
+use Rattle.layout.specs.Record.{record_at}
+use Rattle.layout.specs.Collection.{Collection, collection_at}
+use Rattle.layout.specs.Images.{Images, slots_length}
+use Rattle.layout.proofs.Pages.{page_in_fits}
 use Rattle.steps.specs.declared.Progress.{Progress}
 use Rattle.steps.specs.Store.{stripe}
-use Rattle.steps.specs.Steps.{plain, applyAll, and_then, thenBelow}
+use Rattle.steps.specs.Steps.{plain, apply_all, and_then, then_below}
 use Rattle.steps.specs.Allowance.{Sane, Ran, images}
-use Rattle.steps.proofs.Prefixes.{leads-weaken}
-use Rattle.steps.proofs.Allowances.{ran-none, ran-whole, ran-cut, ran-then-below}
-use Rattle.rules.specs.Open.{repointed, due, ending, moveFrom, moveSteps, finishOf, finishSteps}
+use Rattle.steps.proofs.Prefixes.{leads_weaken}
+use Rattle.steps.proofs.Allowances.{ran_none, ran_whole, ran_cut, ran_then_below}
+use Rattle.rules.specs.Open.{repointed, due, ending, move_from, move_steps, finish_of, finish_steps}
 use Rattle.rules.proofs.Soundness.Statements.{Usable, Sound}
 use Rattle.rules.proofs.Stores.Kept.{Kept}
-use Rattle.rules.proofs.Stores.Moving.{stripe-fits}
-use Rattle.rules.proofs.Lists.Finish.{Moved, moves-lead-to}
+use Rattle.rules.proofs.Stores.Moving.{stripe_fits}
+use Rattle.rules.proofs.Lists.Finish.{Moved, moves_lead_to}
 use Rattle.codec.specs.declared.CollectionRecord.{CollectionRecord}
 use Rattle.codec.specs.declared.StripeRecord.{StripeRecord}
 use Rattle.codec.specs.declared.Spare.{Spare}
-use Rattle.codec.specs.Views.{recordFrom, spare_of, CollectionIs}
+use Rattle.codec.specs.Views.{record_from, spare_of, CollectionIs}
 use Rattle.names.specs.Checked.{Checked}
-use Rattle.names.proofs.Statements.{some-slots, within, usable, stripes, chip-is-sound, sound, checked}
+use Rattle.names.proofs.Statements.{some_slots, within, usable, stripes, chip_is_sound, sound, checked}
 use Rattle.collect.proofs.Underway.{Working, working}
 
 -- ---- the move of one place
 
-module _ (g : Geometry) (chips records : List ℕ) (h : Checked g noChip chips records) (t : CollectionRecord)
-    (is : CollectionIs t (collectionAt (layout_of g) records)) (busy : t.phase ≡ 2) (i : ℕ) (place : i < g.k) where
+module _ (g : Geometry) (chips records : List ℕ) (h : Checked g no_chip chips records) (t : CollectionRecord)
+    (is : CollectionIs t (collection_at (layout_of g) records)) (busy : t.phase ≡ 2) (i : ℕ) (place : i < g.k) where
   abbrev l : Layout
   l = layout_of g
 
   abbrev co : Collection
-  co = collectionAt l records
+  co = collection_at l records
 
   -- the page of the destination, as the code has its number, and whether it is due
   abbrev q : ℕ
   q = t.destination * g.k + i
 
-  abbrev isDue : Bool
-  isDue = due l co (pageAt l chips t.chip) (recordAt l records) q
+  abbrev is_due : Bool
+  is_due = due l co (page_at l chips t.chip) (record_at l records) q
 
   -- the collection is under way, and the page is one of the chip
-  pub under-way : Working g t
-  under-way = working g chips records h t is (omega arith)
+  pub under_way : Working g t
+  under_way = working g chips records h t is (omega arith)
 
-  pub page-fits : q < pages l
-  page-fits = page-in-fits l t.destination i under-way.destination place
+  pub page_fits : q < pages l
+  page_fits = page_in_fits l t.destination i under_way.destination place
 
   -- the definition says the same of it
-  due-there : isDue ≡ due l co (pageAt l chips co.chip) (recordAt l records) (pageIn l co.destination i)
-  due-there = rw (is.chip, is.destination)
+  due_there : is_due ≡ due l co (page_at l chips co.chip) (record_at l records) (page_in l co.destination i)
+  due_there = rw (is.chip, is.destination)
 
   -- nothing is done where it is not due
-  pub no_move : isDue ≡ false → (zs : List ℕ) → moveSteps l co i (images chips records zs) ≡ []
-  unfolding moveSteps moveFrom
-  no_move e zs = rw (sym due-there ∙ e)
+  pub no_move : is_due ≡ false → (zs : List ℕ) → move_steps l co i (images chips records zs) ≡ []
+  unfolding move_steps move_from
+  no_move e zs = rw (sym due_there ∙ e)
 
   -- where it is due, with the spare u of that page
-  module _ (e : isDue ≡ true) (u : Spare) (spare : u ≡ spare_of (pageAt l chips t.chip q)) where
+  module _ (e : is_due ≡ true) (u : Spare) (spare : u ≡ spare_of (page_at l chips t.chip q)) where
     -- its stripe is one of the store's
-    pub due-stripe : u.stripe < g.s
-    due-stripe =
+    pub due_stripe : u.stripe < g.s
+    due_stripe =
         rw (spare, is.chip, is.destination)
-        (stripe-fits l (recordAt l records) (pageAt l chips co.chip) co i
+        (stripe_fits l (record_at l records) (page_at l chips co.chip) co i
         (record {
           within = within g chips records h;
           records = stripes g chips records h;
-          chip = chip-is-sound g chips records h co.chip (rw is.chip at under-way.chip);
+          chip = chip_is_sound g chips records h co.chip (rw is.chip at under_way.chip);
           busy = sym is.phase ∙ busy;
           fits = place;
-          is-due = sym due-there ∙ e;
+          is_due_lem = sym due_there ∙ e;
         }))
 
     -- one record is stored, and n is it
-    pub one-move : (n : StripeRecord) → recordFrom l n ≡ repointed l t.chip u.stripe u.copied q (recordAt l records u.stripe)
-        → (zs : List ℕ) → moveSteps l co i (images chips records zs) ≡ plain (stripe u.stripe (recordFrom l n)) ∷ []
-    unfolding moveSteps moveFrom
-    one-move n new zs = rw (sym due-there ∙ e, new, spare, is.chip, is.destination)
+    pub one_move : (n : StripeRecord) → record_from l n ≡ repointed l t.chip u.stripe u.copied q (record_at l records u.stripe)
+        → (zs : List ℕ) → move_steps l co i (images chips records zs) ≡ plain (stripe u.stripe (record_from l n)) ∷ []
+    unfolding move_steps move_from
+    one_move n new zs = rw (sym due_there ∙ e, new, spare, is.chip, is.destination)
 
 -- ---- all places
 
 -- sound images stay so through the moves, and the collection record stays
-moved-sound : (l : Layout) → Usable l → (s t : Images) → Sound l s → (collectionAt l s.records).phase ≡ 2 → (i : ℕ) → i ≤ l.K
-    → t ≡ applyAll l (thenBelow l i (moveSteps l (collectionAt l s.records)) s) s
-    → Sound l t × (collectionAt l t.records ≡ collectionAt l s.records)
-moved-sound l u s t f busy i fits e =
+moved_sound : (l : Layout) → Usable l → (s t : Images) → Sound l s → (collection_at l s.records).phase ≡ 2 → (i : ℕ) → i ≤ l.K
+    → t ≡ apply_all l (then_below l i (move_steps l (collection_at l s.records)) s) s
+    → Sound l t × (collection_at l t.records ≡ collection_at l s.records)
+moved_sound l u s t f busy i fits e =
     rw e
-    (leads-weaken l (Kept l) (Kept l) (Moved l s i) (λ v. Sound l v × (collectionAt l v.records ≡ collectionAt l s.records))
-    (thenBelow l i (moveSteps l (collectionAt l s.records)) s) s (λ v k. k) (λ v k m. (k.sound, m.collection))
-    (moves-lead-to l u s f busy i fits)).ends
+    (leads_weaken l (Kept l) (Kept l) (Moved l s i) (λ v. Sound l v × (collection_at l v.records ≡ collection_at l s.records))
+    (then_below l i (move_steps l (collection_at l s.records)) s) s (λ v k. k) (λ v k m. (k.sound, m.collection))
+    (moves_lead_to l u s f busy i fits)).ends
 
 -- the moves of the places below i have brought the progress p and the records x₀ to q and x
 pub record Carried (g : Geometry) (chips x₀ : List ℕ) (p : Progress) (i : ℕ) (q : Progress) (x : List ℕ) : Type 0 where
   pub fits : i ≤ g.k
   pub same : length x ≡ length x₀
   pub sane : Sane q
-  pub ran : (zs : List ℕ) → length zs ≡ slotsLength (layout_of g)
-      → Ran (layout_of g) p (thenBelow (layout_of g) i (moveSteps (layout_of g) (collectionAt (layout_of g) x₀)) (images chips x₀ zs)) q (images chips x₀ zs) (images chips x zs)
+  pub ran : (zs : List ℕ) → length zs ≡ slots_length (layout_of g)
+      → Ran (layout_of g) p (then_below (layout_of g) i (move_steps (layout_of g) (collection_at (layout_of g) x₀)) (images chips x₀ zs)) q (images chips x₀ zs) (images chips x zs)
 
 module _ (g : Geometry) (chips x₀ : List ℕ) (p : Progress) where
   -- before the first place
   pub carried_none : Sane p → Carried g chips x₀ p 0 p x₀
-  unfolding thenBelow
-  carried_none h = record { fits = omega arith; same = refl; sane = h; ran = λ zs e. ran-none (layout_of g) p (images chips x₀ zs) h }
+  unfolding then_below
+  carried_none h = record { fits = omega arith; same = refl; sane = h; ran = λ zs e. ran_none (layout_of g) p (images chips x₀ zs) h }
 
   module _ (i : ℕ) (q : Progress) (x : List ℕ) (w : Carried g chips x₀ p i q x) where
     -- what is cut makes no move of the places after it
-    pub carried-cut : q.cut ≡ true → (zs : List ℕ) → length zs ≡ slotsLength (layout_of g)
-        → Ran (layout_of g) p (thenBelow (layout_of g) g.k (moveSteps (layout_of g) (collectionAt (layout_of g) x₀)) (images chips x₀ zs)) q (images chips x₀ zs) (images chips x zs)
-    carried-cut c zs e =
-        ran-cut (layout_of g) p q (moveSteps (layout_of g) (collectionAt (layout_of g) x₀)) i g.k (images chips x₀ zs) (images chips x zs) w.fits c (w.ran zs e)
+    pub carried_cut : q.cut ≡ true → (zs : List ℕ) → length zs ≡ slots_length (layout_of g)
+        → Ran (layout_of g) p (then_below (layout_of g) g.k (move_steps (layout_of g) (collection_at (layout_of g) x₀)) (images chips x₀ zs)) q (images chips x₀ zs) (images chips x zs)
+    carried_cut c zs e =
+        ran_cut (layout_of g) p q (move_steps (layout_of g) (collection_at (layout_of g) x₀)) i g.k (images chips x₀ zs) (images chips x zs) w.fits c (w.ran zs e)
 
-    module _ (h : Checked g noChip chips x₀) (busy : (collectionAt (layout_of g) x₀).phase ≡ 2) (going : q.cut ≡ false) where
+    module _ (h : Checked g no_chip chips x₀) (busy : (collection_at (layout_of g) x₀).phase ≡ 2) (going : q.cut ≡ false) where
       -- what is not cut has kept the tests and the collection record
-      pub carried-sound : Checked g noChip chips x × (collectionAt (layout_of g) x ≡ collectionAt (layout_of g) x₀)
-      carried-sound =
+      pub carried_sound : Checked g no_chip chips x × (collection_at (layout_of g) x ≡ collection_at (layout_of g) x₀)
+      carried_sound =
           let l = layout_of g in
-          let (zs, e) = some-slots l in
+          let (zs, e) = some_slots l in
           let s = images chips x₀ zs in
           let t = images chips x zs in
-          let whole = ran-whole l p q (thenBelow l i (moveSteps l (collectionAt l x₀)) s) s t (w.ran zs e) going in
-          let (f, same) = moved-sound l (usable g chips x₀ h) s t (sound g chips x₀ h zs e) busy i w.fits whole in
-          (checked g h.chips-fit.limited t f, same)
+          let whole = ran_whole l p q (then_below l i (move_steps l (collection_at l x₀)) s) s t (w.ran zs e) going in
+          let (f, same) = moved_sound l (usable g chips x₀ h) s t (sound g chips x₀ h zs e) busy i w.fits whole in
+          (checked g h.chips_fit.limited t f, same)
 
       -- one place more
-      pub carried-more : (r : Progress) (y : List ℕ) → i < g.k → length y ≡ length x
-          → ((zs : List ℕ) → Ran (layout_of g) q (moveSteps (layout_of g) (collectionAt (layout_of g) x) i (images chips x zs)) r (images chips x zs) (images chips y zs))
+      pub carried_more : (r : Progress) (y : List ℕ) → i < g.k → length y ≡ length x
+          → ((zs : List ℕ) → Ran (layout_of g) q (move_steps (layout_of g) (collection_at (layout_of g) x) i (images chips x zs)) r (images chips x zs) (images chips y zs))
           → Carried g chips x₀ p (i + 1) r y
-      carried-more r y place same n = record {
+      carried_more r y place same n = record {
         fits = omega arith;
         same = same ∙ w.same;
         sane = (n []).sane;
         ran = λ zs e.
-            ran-then-below (layout_of g) p q r (moveSteps (layout_of g) (collectionAt (layout_of g) x₀)) i (images chips x₀ zs) (images chips x zs) (images chips y zs)
-            (w.ran zs e) (rw carried-sound.1 at (n zs));
+            ran_then_below (layout_of g) p q r (move_steps (layout_of g) (collection_at (layout_of g) x₀)) i (images chips x₀ zs) (images chips x zs) (images chips y zs)
+            (w.ran zs e) (rw carried_sound.1 at (n zs));
       }
 
 -- ---- the list of the end, by the phase that the code reads
 
-module _ (l : Layout) (s : Images) (t : CollectionRecord) (is : CollectionIs t (collectionAt l s.records)) where
+module _ (l : Layout) (s : Images) (t : CollectionRecord) (is : CollectionIs t (collection_at l s.records)) where
   open l use {K}
 
-  abbrev at-end : Collection
-  at-end = collectionAt l s.records
+  abbrev at_end : Collection
+  at_end = collection_at l s.records
 
   -- phase 1
-  pub finish-first : t.phase ≡ 1 → finishSteps l s ≡ ending t.chip t.destination
-  unfolding finishSteps finishOf
-  finish-first e = rw (is.chip, is.destination, eq-eqb at-end.phase 1 (sym is.phase ∙ e))
+  pub finish_first : t.phase ≡ 1 → finish_steps l s ≡ ending t.chip t.destination
+  unfolding finish_steps finish_of
+  finish_first e = rw (is.chip, is.destination, eq-eqb at_end.phase 1 (sym is.phase ∙ e))
 
   -- phase 2
-  pub finish-second : t.phase ≡ 2 → finishSteps l s ≡ and_then l (thenBelow l K (moveSteps l at-end) s) (λ v. ending t.chip t.victim) s
-  unfolding finishSteps finishOf
-  finish-second e =
-      rw (is.chip, is.victim, ne_eqb at-end.phase 1 (omega (arith, is.phase)), eq-eqb at-end.phase 2 (sym is.phase ∙ e))
+  pub finish_second : t.phase ≡ 2 → finish_steps l s ≡ and_then l (then_below l K (move_steps l at_end) s) (λ v. ending t.chip t.victim) s
+  unfolding finish_steps finish_of
+  finish_second e =
+      rw (is.chip, is.victim, ne_eqb at_end.phase 1 (omega (arith, is.phase)), eq-eqb at_end.phase 2 (sym is.phase ∙ e))
 
   -- phase 0
-  pub finish-idle : t.phase ≢ 1 → t.phase ≢ 2 → finishSteps l s ≡ []
-  unfolding finishSteps finishOf
-  finish-idle d e = rw (ne_eqb at-end.phase 1 (λ n. d (is.phase ∙ n)), ne_eqb at-end.phase 2 (λ n. e (is.phase ∙ n)))
+  pub finish_idle : t.phase ≢ 1 → t.phase ≢ 2 → finish_steps l s ≡ []
+  unfolding finish_steps finish_of
+  finish_idle d e = rw (ne_eqb at_end.phase 1 (λ n. d (is.phase ∙ n)), ne_eqb at_end.phase 2 (λ n. e (is.phase ∙ n)))

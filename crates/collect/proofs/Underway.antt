@@ -4,8 +4,8 @@ use native.Mathlib.Omega.{arith}
 use mathlib.Core.Logic.{◌≢◌}
 use mathlib.Core.List.{List}
 use Rattle.layout.specs.declared.Geometry.{Geometry}
-use Rattle.layout.specs.Layout.{layout_of, noChip}
-use Rattle.layout.specs.Collection.{Collection, collectionAt}
+use Rattle.layout.specs.Layout.{layout_of, no_chip}
+use Rattle.layout.specs.Collection.{Collection, collection_at}
 use Rattle.rules.proofs.Soundness.Statements.{CollectionSound}
 use Rattle.codec.specs.declared.CollectionRecord.{CollectionRecord}
 use Rattle.codec.specs.Views.{CollectionIs}
@@ -19,8 +19,8 @@ pub record Working (g : Geometry) (t : CollectionRecord) : Type 0 where
   pub destination : t.destination < g.b
 
 -- outside phase 0 a sound collection record is such
-working-in : (g : Geometry) (t : CollectionRecord) (co : Collection) → CollectionIs t co → CollectionSound (layout_of g) co → t.phase ≢ 0 → Working g t
-working-in g t co is f d =
+working_in : (g : Geometry) (t : CollectionRecord) (co : Collection) → CollectionIs t co → CollectionSound (layout_of g) co → t.phase ≢ 0 → Working g t
+working_in g t co is f d =
     let busy : co.phase ≢ 0 = λ e. d (omega (arith, is.phase)) in
     record {
       chip = omega (arith, is.chip, f.chip busy);
@@ -29,6 +29,6 @@ working-in g t co is f d =
     }
 
 -- so of images that have passed their checks
-pub working : (g : Geometry) (chips records : List ℕ) → Checked g noChip chips records → (t : CollectionRecord)
-    → CollectionIs t (collectionAt (layout_of g) records) → t.phase ≢ 0 → Working g t
-working g chips records h t is = working-in g t (collectionAt (layout_of g) records) is (stripes g chips records h).collection
+pub working : (g : Geometry) (chips records : List ℕ) → Checked g no_chip chips records → (t : CollectionRecord)
+    → CollectionIs t (collection_at (layout_of g) records) → t.phase ≢ 0 → Working g t
+working g chips records h t is = working_in g t (collection_at (layout_of g) records) is (stripes g chips records h).collection

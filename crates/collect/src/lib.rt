@@ -1,17 +1,17 @@
 //! Collections: the end of one, which is also what open does of one that was cut; a whole one; room on a chip.
 
 ghost use Rattle.std.specs.Prelude.{◌≡◌, true, List, ℕ, ◌≤◌, ◌<◌, length};
-ghost use Rattle.layout.specs.Layout.{layout_of, noChip, limits, pages};
-ghost use Rattle.layout.specs.Page.{pageAt};
-ghost use Rattle.layout.specs.Record.{recordAt};
-ghost use Rattle.layout.specs.Collection.{collectionAt};
-ghost use Rattle.layout.specs.Images.{slotsLength};
-ghost use Rattle.rules.specs.Open.{moved as moved_to, repointed, due, ending, moveSteps, finishSteps};
-ghost use Rattle.rules.specs.Collect.{collectable, collectBlock};
-ghost use Rattle.rules.specs.Room.{roomSteps};
-ghost use Rattle.steps.specs.Steps.{thenBelow};
+ghost use Rattle.layout.specs.Layout.{layout_of, no_chip, limits, pages};
+ghost use Rattle.layout.specs.Page.{page_at};
+ghost use Rattle.layout.specs.Record.{record_at};
+ghost use Rattle.layout.specs.Collection.{collection_at};
+ghost use Rattle.layout.specs.Images.{slots_length};
+ghost use Rattle.rules.specs.Open.{moved as moved_to, repointed, due, ending, move_steps, finish_steps};
+ghost use Rattle.rules.specs.Collect.{collectable, collect_block};
+ghost use Rattle.rules.specs.Room.{room_steps};
+ghost use Rattle.steps.specs.Steps.{then_below};
 ghost use Rattle.codec.specs.Fit.{ChipsFit, RecordsFit, SlotsFit};
-ghost use Rattle.codec.specs.Views.{recordFrom, CollectionIs, SmallRecord};
+ghost use Rattle.codec.specs.Views.{record_from, CollectionIs, SmallRecord};
 ghost use Rattle.steps.specs.Allowance.{Sane, Ran, images};
 ghost use Rattle.names.specs.Checked.{Checked, Settled};
 ghost use Rattle.space.specs.Victims.{VictimFor};
@@ -37,7 +37,7 @@ fn moved(x: usize, p: usize, q: usize) -> usize
 // The record of stripe j with page q in place of page p on chip c.
 fn repoint(g: Geometry, e: StripeRecord, c: usize, j: usize, p: usize, q: usize) -> StripeRecord
     requires { (limits (layout_of g) ≡ true) × (c ≤ g.n) × SmallRecord e × (q < 65536) }
-    ensures { (recordFrom (layout_of g) result ≡ repointed (layout_of g) c j p q (recordFrom (layout_of g) e)) × SmallRecord result }
+    ensures { (record_from (layout_of g) result ≡ repointed (layout_of g) c j p q (record_from (layout_of g) e)) × SmallRecord result }
 {
     let mut next = e;
     let parity = parity_chip(g, j);
@@ -53,9 +53,9 @@ fn repoint(g: Geometry, e: StripeRecord, c: usize, j: usize, p: usize, q: usize)
 
 // Whether page q of the collection's chip holds the copy of a page that is still named in the victim.
 fn is_due(chips: &[u8], records: &[u8], g: Geometry, co: CollectionRecord, q: usize) -> bool
-    requires { Checked g noChip chips.now records.now × CollectionIs co (collectionAt (layout_of g) records.now)
+    requires { Checked g no_chip chips.now records.now × CollectionIs co (collection_at (layout_of g) records.now)
         × (co.chip ≤ g.n) × (co.victim < g.b) × (q < pages (layout_of g)) }
-    ensures { result ≡ due (layout_of g) (collectionAt (layout_of g) records.now) (pageAt (layout_of g) chips.now co.chip) (recordAt (layout_of g) records.now) q }
+    ensures { result ≡ due (layout_of g) (collection_at (layout_of g) records.now) (page_at (layout_of g) chips.now co.chip) (record_at (layout_of g) records.now) q }
 {
     let k = g.k as usize;
     let c = co.chip;
@@ -82,10 +82,10 @@ fn move_from(
     i: usize,
     p: Progress,
 ) -> Progress
-    requires { Checked g noChip chips.now records.old × CollectionIs co (collectionAt (layout_of g) records.old)
+    requires { Checked g no_chip chips.now records.old × CollectionIs co (collection_at (layout_of g) records.old)
         × (co.phase ≡ 2) × (i < g.k) × Sane p }
     ensures { (zs : List ℕ) → Ran (layout_of g) p
-        (moveSteps (layout_of g) (collectionAt (layout_of g) records.old) i (images chips.now records.old zs))
+        (move_steps (layout_of g) (collection_at (layout_of g) records.old) i (images chips.now records.old zs))
         result (images chips.now records.old zs) (images chips.now records.new zs) }
 {
     let k = g.k as usize;
@@ -107,10 +107,10 @@ fn move_all(
     co: CollectionRecord,
     p: Progress,
 ) -> Progress
-    requires { Checked g noChip chips.now records.old × CollectionIs co (collectionAt (layout_of g) records.old)
+    requires { Checked g no_chip chips.now records.old × CollectionIs co (collection_at (layout_of g) records.old)
         × (co.phase ≡ 2) × Sane p }
-    ensures { (zs : List ℕ) → length zs ≡ slotsLength (layout_of g) → Ran (layout_of g) p
-        (thenBelow (layout_of g) g.k (moveSteps (layout_of g) (collectionAt (layout_of g) records.old)) (images chips.now records.old zs))
+    ensures { (zs : List ℕ) → length zs ≡ slots_length (layout_of g) → Ran (layout_of g) p
+        (then_below (layout_of g) g.k (move_steps (layout_of g) (collection_at (layout_of g) records.old)) (images chips.now records.old zs))
         result (images chips.now records.old zs) (images chips.now records.new zs) }
 {
     let k = g.k as usize;
@@ -152,9 +152,9 @@ fn end(
 
 // Finishes the collection that the images are in, if any.
 pub fn finish(chips: &mut [u8], records: &mut [u8], g: Geometry, p: Progress) -> Progress
-    requires { Checked g noChip chips.old records.old × Sane p }
-    ensures { (zs : List ℕ) → length zs ≡ slotsLength (layout_of g) → Ran (layout_of g) p
-        (finishSteps (layout_of g) (images chips.old records.old zs))
+    requires { Checked g no_chip chips.old records.old × Sane p }
+    ensures { (zs : List ℕ) → length zs ≡ slots_length (layout_of g) → Ran (layout_of g) p
+        (finish_steps (layout_of g) (images chips.old records.old zs))
         result (images chips.old records.old zs) (images chips.new records.new zs) }
 {
     let co = collection_at(records, g);
@@ -180,10 +180,10 @@ pub fn collect_chip(
     p: Progress,
 ) -> Progress
     requires { Settled g chips.old records.old × (c ≤ g.n) × Sane p
-        × (v < g.b) × (collectable (layout_of g) c (pageAt (layout_of g) chips.old c) (recordAt (layout_of g) records.old) v ≡ true)
+        × (v < g.b) × (collectable (layout_of g) c (page_at (layout_of g) chips.old c) (record_at (layout_of g) records.old) v ≡ true)
         × SlotsFit g slots.now × (length work.old ≡ g.w) }
     ensures { Ran (layout_of g) p
-        (collectBlock (layout_of g) c v (images chips.old records.old slots.now))
+        (collect_block (layout_of g) c v (images chips.old records.old slots.now))
         result (images chips.old records.old slots.now) (images chips.new records.new slots.now) }
 {
     match clean_block_on(chips, g, c) {
@@ -213,7 +213,7 @@ pub fn make_room(
     requires { Settled g chips.old records.old × (c ≤ g.n) × VictimFor g chips.old records.old c v × Sane p
         × SlotsFit g slots.now × (length work.old ≡ g.w) }
     ensures { Ran (layout_of g) p
-        (roomSteps (layout_of g) c (images chips.old records.old slots.now))
+        (room_steps (layout_of g) c (images chips.old records.old slots.now))
         result (images chips.old records.old slots.now) (images chips.new records.new slots.now) }
 {
     if let Found::At(_) = place_on(chips, g, c) {

@@ -8,8 +8,8 @@ use mathlib.Core.List.{List, [], ◌∷◌}
 use lib.ListN.{length, get_or, drop, drop_of_length-le}
 use lib.Dec.{eqb, leb, ltb}
 use borrow.Author.Tests.{eqb-true, leb-true, ltb-true}
-use Rattle.ranges.proofs.Tests.{chain-all}
-use Rattle.commands.specs.Parsing.{other, digitValue, digitCount, numbered, alone, filled, byte_of, command, commandFrom, commandOf}
+use Rattle.ranges.proofs.Tests.{chain_all}
+use Rattle.commands.specs.Parsing.{other, digit_value, digit_count, numbered, alone, filled, byte_of, command, command_from, command_of}
 
 module _ (line : List ℕ) (k : ℕ) where
   -- a space and one to five digits follow the letter
@@ -20,7 +20,7 @@ module _ (line : List ℕ) (k : ℕ) where
 
   pub numbered_is : numbered line k ≡ true → Numbered
   numbered_is e =
-      let h = chain-all (eqb (get_or line 1 0) (code " ")) (leb 1 k ∷ leb k 5 ∷ []) e in
+      let h = chain_all (eqb (get_or line 1 0) (code " ")) (leb 1 k ∷ leb k 5 ∷ []) e in
       record {
         space = eqb-true (get_or line 1 0) (code " ") h.0;
         some = leb-true 1 k h.1.0;
@@ -31,16 +31,16 @@ module _ (line : List ℕ) (k : ℕ) where
   pub record Filled : Type 0 where
     pub letter : get_or line 0 0 ≡ code "w"
     pub space : get_or line (k + 2) 0 ≡ code " "
-    pub high : digitValue (get_or line (k + 3) 0) < 16
-    pub low : digitValue (get_or line (k + 4) 0) < 16
+    pub high : digit_value (get_or line (k + 3) 0) < 16
+    pub low : digit_value (get_or line (k + 4) 0) < 16
     pub long : length line ≡ k + 5
 
   pub filled_is : filled line k ≡ true → Filled
   filled_is e =
-      let high = digitValue (get_or line (k + 3) 0) in
-      let low = digitValue (get_or line (k + 4) 0) in
+      let high = digit_value (get_or line (k + 3) 0) in
+      let low = digit_value (get_or line (k + 4) 0) in
       let rest = eqb (get_or line (k + 2) 0) (code " ") ∷ ltb high 16 ∷ ltb low 16 ∷ eqb (length line) (k + 5) ∷ [] in
-      let h = chain-all (eqb (get_or line 0 0) (code "w")) rest e in
+      let h = chain_all (eqb (get_or line 0 0) (code "w")) rest e in
       record {
         letter = eqb-true (get_or line 0 0) (code "w") h.0;
         space = eqb-true (get_or line (k + 2) 0) (code " ") h.1.0;
@@ -49,27 +49,27 @@ module _ (line : List ℕ) (k : ℕ) where
         long = eqb-true (length line) (k + 5) h.1.1.1.1.0;
       }
 
-  module _ (e : k ≡ digitCount (drop 2 line)) where
-    pub unnumbered : numbered line k ≡ false → commandOf line ≡ other
-    unfolding commandOf commandFrom
+  module _ (e : k ≡ digit_count (drop 2 line)) where
+    pub unnumbered : numbered line k ≡ false → command_of line ≡ other
+    unfolding command_of command_from
     unnumbered f = rw (← e, f)
 
-    pub number-alone : numbered line k ≡ true → alone line k ≡ true → commandOf line ≡ command line k 0
-    unfolding commandOf commandFrom
-    number-alone t u = rw (← e, t, u)
+    pub number_alone : numbered line k ≡ true → alone line k ≡ true → command_of line ≡ command line k 0
+    unfolding command_of command_from
+    number_alone t u = rw (← e, t, u)
 
-    pub number-and-byte : numbered line k ≡ true → alone line k ≡ false → filled line k ≡ true
-        → commandOf line ≡ command line k (byte_of line k)
-    unfolding commandOf commandFrom
-    number-and-byte t f u = rw (← e, t, f, u)
+    pub number_and_byte : numbered line k ≡ true → alone line k ≡ false → filled line k ≡ true
+        → command_of line ≡ command line k (byte_of line k)
+    unfolding command_of command_from
+    number_and_byte t f u = rw (← e, t, f, u)
 
-    pub neither-follows : numbered line k ≡ true → alone line k ≡ false → filled line k ≡ false → commandOf line ≡ other
-    unfolding commandOf commandFrom
-    neither-follows t f g = rw (← e, t, f, g)
+    pub neither_follows : numbered line k ≡ true → alone line k ≡ false → filled line k ≡ false → command_of line ≡ other
+    unfolding command_of command_from
+    neither_follows t f g = rw (← e, t, f, g)
 
 -- a line without room for a digit
-pub short-line : (line : List ℕ) → length line < 2 → commandOf line ≡ other
-unfolding digitCount
-short-line line h =
+pub short_line : (line : List ℕ) → length line < 2 → command_of line ≡ other
+unfolding digit_count
+short_line line h =
     let short : length line ≤ 2 = omega arith in
     unnumbered line 0 (rw (drop_of_length-le line short)) (rw (and-false (eqb (get_or line 1 0) (code " "))))

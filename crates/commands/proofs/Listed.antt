@@ -9,30 +9,30 @@ use mathlib.Core.List.{List, [], ◌∷◌}
 use lib.ListN.{length, get_or}
 use lib.Dec.{eqb}
 use borrow.Author.Tests.{eqb-true}
-use Rattle.ranges.proofs.Looks.{by-test}
+use Rattle.ranges.proofs.Looks.{by_test}
 use Rattle.ranges.proofs.Tests.{and_both}
 use Rattle.commands.specs.declared.Command.{Command}
-use Rattle.commands.specs.Lines.{spelled, Decimal, line, asks, Gives, w-line, r-line, c-line, x-line}
-use Rattle.commands.specs.Parsing.{digitValue, digitCount, numbered, alone, filled, commandOf}
-use Rattle.commands.proofs.Cases.{numbered_is, filled_is, unnumbered, neither-follows, short-line}
-use Rattle.commands.proofs.Spelling.{was-spelled, at_rest, line-length, leads}
+use Rattle.commands.specs.Lines.{spelled, Decimal, line, asks, Gives, w_line, r_line, c_line, x_line}
+use Rattle.commands.specs.Parsing.{digit_value, digit_count, numbered, alone, filled, command_of}
+use Rattle.commands.proofs.Cases.{numbered_is, filled_is, unnumbered, neither_follows, short_line}
+use Rattle.commands.proofs.Spelling.{was_spelled, at_rest, line_length, leads}
 use Rattle.commands.proofs.Taken.{plain, takes}
 
-same_line : (xs ys : List ℕ) (c : Command) → xs ≡ ys → Gives ys c → Gives xs (commandOf xs)
+same_line : (xs ys : List ℕ) (c : Command) → xs ≡ ys → Gives ys c → Gives xs (command_of xs)
 same_line xs ys c e g = rw (e, takes ys c g) g
 
 no_bytes : (xs : List ℕ) → length xs ≡ 0 → xs ≡ []
 no_bytes [] h = refl
 no_bytes (x ∷ xs) h = absurd (omega arith)
 
-three-bytes : (xs : List ℕ) → length xs ≡ 3 → xs ≡ get_or xs 0 0 ∷ get_or xs 1 0 ∷ get_or xs 2 0 ∷ []
-three-bytes [] h = absurd (omega arith)
-three-bytes (x ∷ []) h = absurd (omega arith)
-three-bytes (x ∷ y ∷ []) h = absurd (omega arith)
-three-bytes (x ∷ y ∷ z ∷ xs) h = rw (no_bytes xs (omega arith))
+three_bytes : (xs : List ℕ) → length xs ≡ 3 → xs ≡ get_or xs 0 0 ∷ get_or xs 1 0 ∷ get_or xs 2 0 ∷ []
+three_bytes [] h = absurd (omega arith)
+three_bytes (x ∷ []) h = absurd (omega arith)
+three_bytes (x ∷ y ∷ []) h = absurd (omega arith)
+three_bytes (x ∷ y ∷ z ∷ xs) h = rw (no_bytes xs (omega arith))
 
 -- a line of letter a, byte s and bytes bs, in which a space and a number follow the letter
-module _ (a s : ℕ) (bs : List ℕ) (n : numbered (a ∷ s ∷ bs) (digitCount bs) ≡ true) where
+module _ (a s : ℕ) (bs : List ℕ) (n : numbered (a ∷ s ∷ bs) (digit_count bs) ≡ true) where
   abbrev xs : List ℕ
   xs = a ∷ s ∷ bs
 
@@ -44,68 +44,68 @@ module _ (a s : ℕ) (bs : List ℕ) (n : numbered (a ∷ s ∷ bs) (digitCount 
 
   decimal : Decimal ds
   decimal =
-      let m = numbered_is xs (digitCount bs) n in
+      let m = numbered_is xs (digit_count bs) n in
       let e = (leads bs).count in
       record { some = omega arith; few = omega arith; digits = (leads bs).tens }
 
   shape : xs ≡ line a ds rest
-  shape = let e = (numbered_is xs (digitCount bs) n).space in cc (leads bs).whole
+  shape = let e = (numbered_is xs (digit_count bs) n).space in cc (leads bs).whole
 
-  rest-length : (m : ℕ) → length xs ≡ digitCount bs + (2 + m) → length rest ≡ m
-  rest-length m e = omega (arith, ap length shape, line-length a ds rest, (leads bs).count)
+  rest_length : (m : ℕ) → length xs ≡ digit_count bs + (2 + m) → length rest ≡ m
+  rest_length m e = omega (arith, ap length shape, line_length a ds rest, (leads bs).count)
 
-  rest-byte : (i : ℕ) → get_or xs (digitCount bs + (2 + i)) 0 ≡ get_or rest i 0
-  rest-byte i = rw (leads bs).count (ap (λ (ys : List ℕ). get_or ys (length ds + (2 + i)) 0) shape ∙ at_rest a ds rest i)
+  rest_byte : (i : ℕ) → get_or xs (digit_count bs + (2 + i)) 0 ≡ get_or rest i 0
+  rest_byte i = rw (leads bs).count (ap (λ (ys : List ℕ). get_or ys (length ds + (2 + i)) 0) shape ∙ at_rest a ds rest i)
 
-  module _ (u : alone xs (digitCount bs) ≡ true) where
-    parts : (plain a ≡ true) × (eqb (length xs) (digitCount bs + 2) ≡ true)
-    parts = and_both (plain a) (eqb (length xs) (digitCount bs + 2)) u
+  module _ (u : alone xs (digit_count bs) ≡ true) where
+    parts : (plain a ≡ true) × (eqb (length xs) (digit_count bs + 2) ≡ true)
+    parts = and_both (plain a) (eqb (length xs) (digit_count bs + 2)) u
 
-    nothing-follows : rest ≡ []
-    nothing-follows = no_bytes rest (rest-length 0 (eqb-true (length xs) (digitCount bs + 2) parts.1))
+    nothing_follows : rest ≡ []
+    nothing_follows = no_bytes rest (rest_length 0 (eqb-true (length xs) (digit_count bs + 2) parts.1))
 
-    with-letter : (letter : ℕ) → eqb a letter ≡ true → Gives (line letter ds []) (asks letter ds 0) → Gives xs (commandOf xs)
-    with-letter letter t =
-        same_line xs (line letter ds []) (asks letter ds 0) (shape ∙ rw (eqb-true a letter t, nothing-follows))
+    with_letter : (letter : ℕ) → eqb a letter ≡ true → Gives (line letter ds []) (asks letter ds 0) → Gives xs (command_of xs)
+    with_letter letter t =
+        same_line xs (line letter ds []) (asks letter ds 0) (shape ∙ rw (eqb-true a letter t, nothing_follows))
 
-    number-listed : Gives xs (commandOf xs)
-    number-listed =
-        by-test (eqb a (code "r"))
-        (λ t. with-letter (code "r") t (r-line ds decimal))
+    number_listed : Gives xs (command_of xs)
+    number_listed =
+        by_test (eqb a (code "r"))
+        (λ t. with_letter (code "r") t (r_line ds decimal))
         λ f.
-        by-test (eqb a (code "c"))
-        (λ t. with-letter (code "c") t (c-line ds decimal))
-        λ g. with-letter (code "x") (rw (f, g) at parts.0) (x-line ds decimal)
+        by_test (eqb a (code "c"))
+        (λ t. with_letter (code "c") t (c_line ds decimal))
+        λ g. with_letter (code "x") (rw (f, g) at parts.0) (x_line ds decimal)
 
-  byte-listed : filled xs (digitCount bs) ≡ true → Gives xs (commandOf xs)
-  byte-listed u =
-      let f = filled_is xs (digitCount bs) u in
-      let high = get_or xs (digitCount bs + 3) 0 in
-      let low = get_or xs (digitCount bs + 4) 0 in
+  byte_listed : filled xs (digit_count bs) ≡ true → Gives xs (command_of xs)
+  byte_listed u =
+      let f = filled_is xs (digit_count bs) u in
+      let high = get_or xs (digit_count bs + 3) 0 in
+      let low = get_or xs (digit_count bs + 4) 0 in
       let w : a ≡ code "w" = f.letter in
-      let e = three-bytes rest (rest-length 3 f.long) in
-      let s₀ = rest-byte 0 in
-      let s₁ : high ≡ get_or rest 1 0 = rest-byte 1 in
-      let s₂ : low ≡ get_or rest 2 0 = rest-byte 2 in
-      let h = was-spelled high f.high in
-      let l = was-spelled low f.low in
-      same_line xs (line (code "w") ds (code " " ∷ spelled (digitValue high) ∷ spelled (digitValue low) ∷ []))
-      (asks (code "w") ds (16 * digitValue high + digitValue low))
+      let e = three_bytes rest (rest_length 3 f.long) in
+      let s₀ = rest_byte 0 in
+      let s₁ : high ≡ get_or rest 1 0 = rest_byte 1 in
+      let s₂ : low ≡ get_or rest 2 0 = rest_byte 2 in
+      let h = was_spelled high f.high in
+      let l = was_spelled low f.low in
+      same_line xs (line (code "w") ds (code " " ∷ spelled (digit_value high) ∷ spelled (digit_value low) ∷ []))
+      (asks (code "w") ds (16 * digit_value high + digit_value low))
       (shape ∙ cc f.space)
-      (w-line ds (digitValue high) (digitValue low) decimal f.high f.low)
+      (w_line ds (digit_value high) (digit_value low) decimal f.high f.low)
 
-pub listed : (xs : List ℕ) → (commandOf xs).letter ≢ 0 → Gives xs (commandOf xs)
-listed [] h = absurd (h (rw (short-line [] (omega arith))))
-listed (a ∷ []) h = absurd (h (rw (short-line (a ∷ []) (omega arith))))
+pub listed : (xs : List ℕ) → (command_of xs).letter ≢ 0 → Gives xs (command_of xs)
+listed [] h = absurd (h (rw (short_line [] (omega arith))))
+listed (a ∷ []) h = absurd (h (rw (short_line (a ∷ []) (omega arith))))
 listed (a ∷ s ∷ bs) h =
     let ys = a ∷ s ∷ bs in
-    let k = digitCount bs in
-    by-test (numbered ys k)
+    let k = digit_count bs in
+    by_test (numbered ys k)
     (λ n.
-    by-test (alone ys k)
-    (number-listed a s bs n)
+    by_test (alone ys k)
+    (number_listed a s bs n)
     λ f.
-    by-test (filled ys k)
-    (byte-listed a s bs n)
-    λ g. absurd (h (rw (neither-follows ys k refl n f g))))
+    by_test (filled ys k)
+    (byte_listed a s bs n)
+    λ g. absurd (h (rw (neither_follows ys k refl n f g))))
     λ f. absurd (h (rw (unnumbered ys k refl f)))

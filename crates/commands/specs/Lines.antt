@@ -29,11 +29,11 @@ asks letter ds b = record { letter = letter; digits = length ds; number = value 
 -- the lines, and what each gives
 pub data Gives : List ℕ → Command → Type 0 where
   -- "`w` page byte (fills a page)"; "bytes two lower-case hexadecimal digits"
-  w-line : (ds : List ℕ) (high low : ℕ) → Decimal ds → high < 16 → low < 16
+  w_line : (ds : List ℕ) (high low : ℕ) → Decimal ds → high < 16 → low < 16
       → Gives (line (code "w") ds (code " " ∷ spelled high ∷ spelled low ∷ [])) (asks (code "w") ds (16 * high + low))
   -- "`r` page"
-  r-line : (ds : List ℕ) → Decimal ds → Gives (line (code "r") ds []) (asks (code "r") ds 0)
+  r_line : (ds : List ℕ) → Decimal ds → Gives (line (code "r") ds []) (asks (code "r") ds 0)
   -- "`c` stripe"
-  c-line : (ds : List ℕ) → Decimal ds → Gives (line (code "c") ds []) (asks (code "c") ds 0)
+  c_line : (ds : List ℕ) → Decimal ds → Gives (line (code "c") ds []) (asks (code "c") ds 0)
   -- "`x` chip (lost from here)"
-  x-line : (ds : List ℕ) → Decimal ds → Gives (line (code "x") ds []) (asks (code "x") ds 0)
+  x_line : (ds : List ℕ) → Decimal ds → Gives (line (code "x") ds []) (asks (code "x") ds 0)

@@ -8,21 +8,21 @@ abbrev pub other : Command
 other = record { letter = 0; digits = 0; number = 0; byte = 0 }
 
 -- the value of a digit, "decimal" or "lower-case hexadecimal", and 16 for any other byte
-unfoldable pub digitValue : ℕ → ℕ
-digitValue b =
+unfoldable pub digit_value : ℕ → ℕ
+digit_value b =
     cond (leb (code "0") b && leb b (code "9"))
     (b - code "0")
     (cond (leb (code "a") b && leb b (code "f")) (b - code "a" + 10) 16)
 
 -- how many decimal digits the bytes begin with
-unfoldable pub digitCount : List ℕ → ℕ
-digitCount [] = 0
-digitCount (b ∷ bs) = cond (ltb (digitValue b) 10) (suc (digitCount bs)) 0
+unfoldable pub digit_count : List ℕ → ℕ
+digit_count [] = 0
+digit_count (b ∷ bs) = cond (ltb (digit_value b) 10) (suc (digit_count bs)) 0
 
 -- the number that the first k of them spell
-unfoldable pub decimalValue : List ℕ → ℕ → ℕ
-decimalValue bs zero = 0
-decimalValue bs (suc k) = decimalValue bs k * 10 + digitValue (get_or bs k 0)
+unfoldable pub decimal_value : List ℕ → ℕ → ℕ
+decimal_value bs zero = 0
+decimal_value bs (suc k) = decimal_value bs k * 10 + digit_value (get_or bs k 0)
 
 module _ (line : List ℕ) (k : ℕ) where
   -- a space and a number of k digits follow the letter: "decimal of at most five digits"
@@ -40,25 +40,25 @@ module _ (line : List ℕ) (k : ℕ) where
   filled =
       eqb (get_or line 0 0) (code "w")
       && eqb (get_or line (k + 2) 0) (code " ")
-      && ltb (digitValue (get_or line (k + 3) 0)) 16
-      && ltb (digitValue (get_or line (k + 4) 0)) 16
+      && ltb (digit_value (get_or line (k + 3) 0)) 16
+      && ltb (digit_value (get_or line (k + 4) 0)) 16
       && eqb (length line) (k + 5)
 
   -- the byte that these digits spell
   abbrev pub byte_of : ℕ
-  byte_of = 16 * digitValue (get_or line (k + 3) 0) + digitValue (get_or line (k + 4) 0)
+  byte_of = 16 * digit_value (get_or line (k + 3) 0) + digit_value (get_or line (k + 4) 0)
 
   -- the command with the line's letter and its number of k digits
   abbrev pub command : ℕ → Command
-  command b = record { letter = get_or line 0 0; digits = k; number = decimalValue (drop 2 line) k; byte = b }
+  command b = record { letter = get_or line 0 0; digits = k; number = decimal_value (drop 2 line) k; byte = b }
 
   -- the command of a line with k decimal digits from offset 2 on
-  unfoldable pub commandFrom : Command
-  commandFrom =
+  unfoldable pub command_from : Command
+  command_from =
       cond numbered
       (cond alone (command 0)
       (cond filled (command byte_of) other))
       other
 
-unfoldable pub commandOf : List ℕ → Command
-commandOf line = commandFrom line (digitCount (drop 2 line))
+unfoldable pub command_of : List ℕ → Command
+command_of line = command_from line (digit_count (drop 2 line))

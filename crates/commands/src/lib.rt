@@ -1,7 +1,7 @@
 //! The commands of the bench program: what a line of its input asks for.
 
 ghost use Rattle.std.specs.Prelude.{◌≡◌, ◌+◌, ◌*◌, ◌≤◌, ◌<◌, get_or};
-ghost use Rattle.commands.specs.Parsing.{other, digitValue, digitCount, decimalValue, numbered, alone, filled, commandOf};
+ghost use Rattle.commands.specs.Parsing.{other, digit_value, digit_count, decimal_value, numbered, alone, filled, command_of};
 
 #[derive(Drop)]
 pub struct Command {
@@ -42,7 +42,7 @@ fn byte_at(s: &[u8], i: usize) -> u8
 
 // The value of a digit, and 16 for any other byte.
 fn digit_value(b: u8) -> u8
-    ensures { result ≡ digitValue b }
+    ensures { result ≡ digit_value b }
 {
     if (b'0' <= b) & (b <= b'9') {
         b - b'0'
@@ -55,7 +55,7 @@ fn digit_value(b: u8) -> u8
 
 // How many decimal digits the bytes begin with.
 fn digit_count(s: &[u8]) -> usize
-    ensures { result ≡ digitCount s.now }
+    ensures { result ≡ digit_count s.now }
 {
     let mut i = 0;
     while i < s.len() {
@@ -70,7 +70,7 @@ fn digit_count(s: &[u8]) -> usize
 // The number that the first k digits spell.
 fn decimal_value(s: &[u8], k: usize) -> u64
     requires { k ≤ 5 }
-    ensures { result ≡ decimalValue s.now k }
+    ensures { result ≡ decimal_value s.now k }
 {
     let mut n = 0;
     for i in 0..k {
@@ -109,15 +109,15 @@ fn is_filled(line: &[u8], k: usize) -> bool
 
 // The byte that two hexadecimal digits spell.
 fn byte_value(high: u8, low: u8) -> u8
-    requires { (digitValue high < 16) × (digitValue low < 16) }
-    ensures { result ≡ 16 * digitValue high + digitValue low }
+    requires { (digit_value high < 16) × (digit_value low < 16) }
+    ensures { result ≡ 16 * digit_value high + digit_value low }
 {
     16 * digit_value(high) + digit_value(low)
 }
 
 // The command of a line, which stands without its newline.
 pub fn parse(line: &[u8]) -> Command
-    ensures { result ≡ commandOf line.now }
+    ensures { result ≡ command_of line.now }
 {
     if line.len() < 2 {
         return no_command();

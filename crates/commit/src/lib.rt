@@ -2,9 +2,9 @@
 
 ghost use Rattle.std.specs.Prelude.{◌≡◌, true, ◌<◌, length};
 ghost use Rattle.layout.specs.Layout.{layout_of};
-ghost use Rattle.layout.specs.Rotation.{parityChip};
-ghost use Rattle.layout.specs.Record.{recordAt, hasSlot};
-ghost use Rattle.rules.specs.Commit.{commitSteps};
+ghost use Rattle.layout.specs.Rotation.{parity_chip};
+ghost use Rattle.layout.specs.Record.{record_at, has_slot};
+ghost use Rattle.rules.specs.Commit.{commit_steps};
 ghost use Rattle.steps.specs.Allowance.{Sane, Ran, images};
 ghost use Rattle.codec.specs.Fit.{SlotsFit};
 ghost use Rattle.names.specs.Checked.{Settled};
@@ -30,8 +30,8 @@ pub fn commit_stripe(
     p: Progress,
 ) -> Progress
     requires { Settled g chips.old records.old × SlotsFit g slots.now × (length work.old ≡ g.w) × (j < g.s) × Sane p
-        × (hasSlot (recordAt (layout_of g) records.old j) ≡ true) × VictimFor g chips.old records.old (parityChip (layout_of g) j) v }
-    ensures { Ran (layout_of g) p (commitSteps (layout_of g) j (images chips.old records.old slots.now))
+        × (has_slot (record_at (layout_of g) records.old j) ≡ true) × VictimFor g chips.old records.old (parity_chip (layout_of g) j) v }
+    ensures { Ran (layout_of g) p (commit_steps (layout_of g) j (images chips.old records.old slots.now))
         result (images chips.old records.old slots.now) (images chips.new records.new slots.now) }
 {
     let c = parity_chip(g, j);

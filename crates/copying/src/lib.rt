@@ -3,11 +3,11 @@
 ghost use Rattle.std.specs.Prelude.{◌≡◌, true, List, [], ◌∷◌, ℕ, ◌≤◌, ◌<◌, length};
 ghost use Rattle.ranges.specs.declared.Found.TheVariants.{At};
 ghost use Rattle.layout.specs.Layout.{layout_of, pages};
-ghost use Rattle.layout.specs.Page.{pageAt};
-ghost use Rattle.layout.specs.Record.{recordAt};
-ghost use Rattle.rules.specs.Blocks.{lowestCleanBlock};
+ghost use Rattle.layout.specs.Page.{page_at};
+ghost use Rattle.layout.specs.Record.{record_at};
+ghost use Rattle.rules.specs.Blocks.{lowest_clean_block};
 ghost use Rattle.rules.specs.Fetch.{fed};
-ghost use Rattle.rules.specs.Collect.{phase, copy_of, collectable, copySteps, copyFeed};
+ghost use Rattle.rules.specs.Collect.{phase, copy_of, collectable, copy_steps, copy_feed};
 ghost use Rattle.steps.specs.Store.{program as programStore, collection};
 ghost use Rattle.steps.specs.Steps.{plain};
 ghost use Rattle.steps.specs.Allowance.{Sane, Ran, images};
@@ -37,8 +37,8 @@ fn copy_page(
     requires { ChipsFit g chips.old × RecordsFit g records.now × SlotsFit g slots.now × (c ≤ g.n) × (p < pages (layout_of g)) × (q < pages (layout_of g))
         × Sane run × Copyable (layout_of g) chips.old records.now c p × (length work.old ≡ g.w) }
     ensures { (rs zs : List ℕ) → Ran (layout_of g) run
-        (fed (copyFeed (layout_of g) c (images chips.old records.now slots.now) p)
-        (λ xs. programStore c q (copy_of (layout_of g) p (pageAt (layout_of g) chips.old c p) xs)) ∷ [])
+        (fed (copy_feed (layout_of g) c (images chips.old records.now slots.now) p)
+        (λ xs. programStore c q (copy_of (layout_of g) p (page_at (layout_of g) chips.old c p) xs)) ∷ [])
         result (images chips.old rs zs) (images chips.new rs zs) }
 {
     let t = spare_at(chips, g, c, p);
@@ -90,13 +90,13 @@ pub fn copy_block(
     p: Progress,
 ) -> Progress
     requires { Settled g chips.old records.old × (c ≤ g.n) × Sane p
-        × (v < g.b) × (collectable (layout_of g) c (pageAt (layout_of g) chips.old c) (recordAt (layout_of g) records.old) v ≡ true)
-        × (lowestCleanBlock (layout_of g) (pageAt (layout_of g) chips.old c) ≡ At d)
+        × (v < g.b) × (collectable (layout_of g) c (page_at (layout_of g) chips.old c) (record_at (layout_of g) records.old) v ≡ true)
+        × (lowest_clean_block (layout_of g) (page_at (layout_of g) chips.old c) ≡ At d)
         × SlotsFit g slots.now × (length work.old ≡ g.w) }
     ensures { Ran (layout_of g) p
-        (copySteps (layout_of g) c (pageAt (layout_of g) chips.old c)
-        (copyFeed (layout_of g) c (images chips.old records.old slots.now))
-        (recordAt (layout_of g) records.old) v d)
+        (copy_steps (layout_of g) c (page_at (layout_of g) chips.old c)
+        (copy_feed (layout_of g) c (images chips.old records.old slots.now))
+        (record_at (layout_of g) records.old) v d)
         result (images chips.old records.old slots.now) (images chips.new records.new slots.now) }
 {
     let k = g.k as usize;

@@ -3,10 +3,10 @@
 ghost use Rattle.std.specs.Prelude.{◌≡◌, true, List, [], ◌∷◌, ℕ, ◌+◌, ◌-◌, ◌^◌, ◌≤◌, ◌<◌, min, length};
 ghost use Rattle.layout.specs.Layout.{layout_of, pages};
 ghost use Rattle.steps.specs.Store.{program as programStore, erase as eraseStore, slot as slotStore, stripe, collection};
-ghost use Rattle.steps.specs.Steps.{plain, noCounts, reading};
+ghost use Rattle.steps.specs.Steps.{plain, no_counts, reading};
 ghost use Rattle.codec.specs.Fit.{ChipsFit, RecordsFit, SlotsFit};
-ghost use Rattle.codec.specs.Views.{recordFrom, collectionFrom, pageFrom, SmallRecord, SmallSpare};
-ghost use Rattle.steps.specs.Allowance.{mostReads, started, countingAll, Sane, Ran, images};
+ghost use Rattle.codec.specs.Views.{record_from, collection_from, page_from, SmallRecord, SmallSpare};
+ghost use Rattle.steps.specs.Allowance.{most_reads, started, counting_all, Sane, Ran, images};
 
 use codec::put::{put_clean_block, put_collection, put_page, put_record, put_slot};
 use codec::{CollectionRecord, Spare, StripeRecord};
@@ -36,7 +36,7 @@ pub fn start_after(reads: u64, allowance: u64) -> Progress
 
 // The same of a call that has read none.
 pub fn start(allowance: u64) -> Progress
-    ensures { (result ≡ started noCounts (min allowance (2 ^ 59))) × Sane result }
+    ensures { (result ≡ started no_counts (min allowance (2 ^ 59))) × Sane result }
 {
     start_after(0, allowance)
 }
@@ -55,7 +55,7 @@ fn stop(p: Progress) -> Progress
 
 // One store more, for which so many pages were read, programmed and erased.
 fn count(p: Progress, reads: u64, programs: u64, erases: u64) -> Progress
-    requires { Sane p × (0 < p.left) × (reads ≤ mostReads) × (programs ≤ 1) × (erases ≤ 1) }
+    requires { Sane p × (0 < p.left) × (reads ≤ most_reads) × (programs ≤ 1) × (erases ≤ 1) }
     ensures { result ≡ record {
       counts = record {
         reads = p.counts.reads + reads;
@@ -97,7 +97,7 @@ pub fn held(p: Progress, due: usize) -> usize
 // So many stores alike are due, for which no page is read or programmed: those that the allowance holds are counted.
 pub fn count_all(p: Progress, due: u64, erases: u64) -> Progress
     requires { Sane p × (erases ≤ 1) }
-    ensures { result ≡ countingAll p due erases }
+    ensures { result ≡ counting_all p due erases }
 {
     let made = lesser(p.left, due);
     let c = p.counts;
@@ -124,9 +124,9 @@ pub fn program(
     reads: u64,
     p: Progress,
 ) -> Progress
-    requires { ChipsFit g chips.old × (c ≤ g.n) × (q < pages (layout_of g)) × (length bytes.now ≡ g.w) × SmallSpare t × (reads ≤ mostReads) × Sane p }
+    requires { ChipsFit g chips.old × (c ≤ g.n) × (q < pages (layout_of g)) × (length bytes.now ≡ g.w) × SmallSpare t × (reads ≤ most_reads) × Sane p }
     ensures { (rs zs : List ℕ) → Ran (layout_of g) p
-        (record { reads = reads; store = programStore c q (pageFrom (layout_of g) bytes.now t) } ∷ [])
+        (record { reads = reads; store = programStore c q (page_from (layout_of g) bytes.now t) } ∷ [])
         result (images chips.old rs zs) (images chips.new rs zs) }
 {
     if p.left == 0 {
@@ -158,7 +158,7 @@ pub fn store_slot(
     reads: u64,
     p: Progress,
 ) -> Progress
-    requires { SlotsFit g slots.old × (i ≤ g.m) × (length bytes.now ≡ g.w) × (reads ≤ mostReads) × Sane p }
+    requires { SlotsFit g slots.old × (i ≤ g.m) × (length bytes.now ≡ g.w) × (reads ≤ most_reads) × Sane p }
     ensures { (cs rs : List ℕ) → Ran (layout_of g) p (record { reads = reads; store = slotStore i bytes.now } ∷ [])
         result (images cs rs slots.old) (images cs rs slots.new) }
 {
@@ -178,7 +178,7 @@ pub fn store_record(
     p: Progress,
 ) -> Progress
     requires { RecordsFit g records.old × (j < g.s) × SmallRecord e × Sane p }
-    ensures { (cs zs : List ℕ) → Ran (layout_of g) p (plain (stripe j (recordFrom (layout_of g) e)) ∷ [])
+    ensures { (cs zs : List ℕ) → Ran (layout_of g) p (plain (stripe j (record_from (layout_of g) e)) ∷ [])
         result (images cs records.old zs) (images cs records.new zs) }
 {
     if p.left == 0 {
@@ -196,7 +196,7 @@ pub fn store_collection(
     p: Progress,
 ) -> Progress
     requires { RecordsFit g records.old × (co.phase < 256) × (co.chip < 256) × Sane p }
-    ensures { (cs zs : List ℕ) → Ran (layout_of g) p (plain (collection (collectionFrom co)) ∷ [])
+    ensures { (cs zs : List ℕ) → Ran (layout_of g) p (plain (collection (collection_from co)) ∷ [])
         result (images cs records.old zs) (images cs records.new zs) }
 {
     if p.left == 0 {

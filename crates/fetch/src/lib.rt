@@ -1,27 +1,27 @@
 //! One page of a stripe, fetched in its role: XORed into a buffer or copied, from the other chips where its own is lost.
 
 ghost use Rattle.std.specs.Prelude.{◌≡◌, ◌≢◌, true, cond, List, ℕ, ◌≤◌, ◌<◌, length};
-ghost use Rattle.bytes.specs.Xor.{◌⊕◌};
+ghost use Rattle.octets.specs.Xor.{◌⊕◌};
 ghost use Rattle.layout.specs.Layout.{layout_of, limits, none, pages};
-ghost use Rattle.layout.specs.Rotation.{parityChip, memberChip};
-ghost use Rattle.layout.specs.Page.{pageAt};
-ghost use Rattle.layout.specs.Record.{bit, recordAt};
-ghost use Rattle.layout.specs.Images.{slotAt};
+ghost use Rattle.layout.specs.Rotation.{parity_chip, member_chip};
+ghost use Rattle.layout.specs.Page.{page_at};
+ghost use Rattle.layout.specs.Record.{bit, record_at};
+ghost use Rattle.layout.specs.Images.{slot_at};
 ghost use Rattle.steps.specs.Allowance.{images};
-ghost use Rattle.rules.specs.Names.{roleOf};
-ghost use Rattle.rules.specs.Sound.{recordSound};
-ghost use Rattle.rules.specs.Fetch.{itself, gathered, chipIn, number_in, throughPartial, rebuilt, fetchIn};
-ghost use Rattle.rules.specs.Read.{fetchMember};
+ghost use Rattle.rules.specs.Names.{role_of};
+ghost use Rattle.rules.specs.Sound.{record_sound};
+ghost use Rattle.rules.specs.Fetch.{itself, gathered, chip_in, number_in, through_partial, rebuilt, fetch_in};
+ghost use Rattle.rules.specs.Read.{fetch_member};
 ghost use Rattle.codec.specs.Fit.{ChipsFit, RecordsFit, SlotsFit};
-ghost use Rattle.fetch.specs.Into.{RoleFits, begun, others, firstIn, leftOut, isInside, throughFull, Into, isDirect};
+ghost use Rattle.fetch.specs.Into.{RoleFits, begun, others, first_in, left_out, is_inside, through_full, Into, is_direct};
 
-use bytes::{copy, fill, xor_into};
 use codec::scan::{LAST, OLD, number_in};
 use codec::{
     NONE, bit_of, bitmap_at, chip_beside, member_chip, member_on, page_data, parity_chip, slot_at,
     slot_data,
 };
 use layout::Geometry;
+use octets::{copy, fill, xor_into};
 use rules::{Origin, Role};
 
 // No member.
@@ -59,8 +59,8 @@ fn add_none(work: &mut [u8], fresh: bool)
 // XORs into work page p of chip c as it stands, and answers how many pages were read: of no page, none.
 fn add_page(work: &mut [u8], chips: &[u8], g: Geometry, c: usize, p: usize, fresh: bool) -> u64
     requires { ChipsFit g chips.now × (length work.old ≡ g.w) × (c ≤ g.n) × (p ≢ none (layout_of g) → p < pages (layout_of g)) }
-    ensures { (work.new ≡ begun fresh work.old ⊕ (itself (layout_of g) (pageAt (layout_of g) chips.now) c p).bytes)
-        × (result ≡ (itself (layout_of g) (pageAt (layout_of g) chips.now) c p).reads) × (result ≤ 1) }
+    ensures { (work.new ≡ begun fresh work.old ⊕ (itself (layout_of g) (page_at (layout_of g) chips.now) c p).bytes)
+        × (result ≡ (itself (layout_of g) (page_at (layout_of g) chips.now) c p).reads) × (result ≤ 1) }
 {
     if p != NONE {
         add(work, page_data(chips, g, c, p), fresh);
@@ -80,8 +80,8 @@ fn other_number(
     m: usize,
     i: usize,
 ) -> usize
-    requires { RecordsFit g records.now × (j < g.s) × (i < 6) × (bitmap ≡ (recordAt (layout_of g) records.now j).bitmap) }
-    ensures { result ≡ others (layout_of g) inside m (recordAt (layout_of g) records.now j) i }
+    requires { RecordsFit g records.now × (j < g.s) × (i < 6) × (bitmap ≡ (record_at (layout_of g) records.now j).bitmap) }
+    ensures { result ≡ others (layout_of g) inside m (record_at (layout_of g) records.now j) i }
 {
     let set = bit_of(bitmap, i);
     if (i == m) | (inside & !set) {
@@ -104,11 +104,11 @@ fn gather(
     inside: bool,
     m: usize,
 ) -> u64
-    requires { ChipsFit g chips.now × RecordsFit g records.now × (length work.old ≡ g.w) × (j < g.s) × (parity ≡ parityChip (layout_of g) j)
-        × (recordSound (layout_of g) (recordAt (layout_of g) records.now j) ≡ true) }
+    requires { ChipsFit g chips.now × RecordsFit g records.now × (length work.old ≡ g.w) × (j < g.s) × (parity ≡ parity_chip (layout_of g) j)
+        × (record_sound (layout_of g) (record_at (layout_of g) records.now j) ≡ true) }
     ensures { (work.new ≡ work.old
-        ⊕ (gathered (layout_of g) (pageAt (layout_of g) chips.now) j (others (layout_of g) inside m (recordAt (layout_of g) records.now j))).bytes)
-        × (result ≡ (gathered (layout_of g) (pageAt (layout_of g) chips.now) j (others (layout_of g) inside m (recordAt (layout_of g) records.now j))).reads)
+        ⊕ (gathered (layout_of g) (page_at (layout_of g) chips.now) j (others (layout_of g) inside m (record_at (layout_of g) records.now j))).bytes)
+        × (result ≡ (gathered (layout_of g) (page_at (layout_of g) chips.now) j (others (layout_of g) inside m (record_at (layout_of g) records.now j))).reads)
         × (result ≤ 6) }
 {
     let n = g.n as usize;
@@ -136,9 +136,9 @@ fn through_partial(
     m: usize,
     fresh: bool,
 ) -> Got
-    requires { ChipsFit g chips.now × RecordsFit g records.now × SlotsFit g slots.now × (length work.old ≡ g.w) × (j < g.s) × (parity ≡ parityChip (layout_of g) j)
-        × (recordSound (layout_of g) (recordAt (layout_of g) records.now j) ≡ true) × (bit (recordAt (layout_of g) records.now j) m ≡ true) }
-    ensures { Into (throughPartial (layout_of g) (pageAt (layout_of g) chips.now) (slotAt (layout_of g) slots.now) j (recordAt (layout_of g) records.now j) m)
+    requires { ChipsFit g chips.now × RecordsFit g records.now × SlotsFit g slots.now × (length work.old ≡ g.w) × (j < g.s) × (parity ≡ parity_chip (layout_of g) j)
+        × (record_sound (layout_of g) (record_at (layout_of g) records.now j) ≡ true) × (bit (record_at (layout_of g) records.now j) m ≡ true) }
+    ensures { Into (through_partial (layout_of g) (page_at (layout_of g) chips.now) (slot_at (layout_of g) slots.now) j (record_at (layout_of g) records.now j) m)
         (begun fresh work.old) work.new result }
 {
     add(work, slot_data(slots, g, slot_at(records, g, j)), fresh);
@@ -151,7 +151,7 @@ fn through_partial(
 // The page that goes in first: the parity page, but where it is the one that is rebuilt.
 fn first_number(records: &[u8], g: Geometry, j: usize, role: Role) -> usize
     requires { RecordsFit g records.now × (j < g.s) }
-    ensures { result ≡ firstIn (layout_of g) (recordAt (layout_of g) records.now j) role }
+    ensures { result ≡ first_in (layout_of g) (record_at (layout_of g) records.now j) role }
 {
     match role {
         Role::Current(_) => number_in(records, g, j, LAST),
@@ -162,7 +162,7 @@ fn first_number(records: &[u8], g: Geometry, j: usize, role: Role) -> usize
 
 // The member that is left out of the others.
 fn left_out(role: Role) -> usize
-    ensures { result ≡ leftOut role }
+    ensures { result ≡ left_out role }
 {
     match role {
         Role::Current(m) => m,
@@ -182,9 +182,9 @@ fn through_parity(
     role: Role,
     fresh: bool,
 ) -> Got
-    requires { ChipsFit g chips.now × RecordsFit g records.now × (length work.old ≡ g.w) × (j < g.s) × (parity ≡ parityChip (layout_of g) j) × (parity ≤ g.n)
-        × (recordSound (layout_of g) (recordAt (layout_of g) records.now j) ≡ true) }
-    ensures { (z : ℕ → List ℕ) → Into (throughFull (layout_of g) (pageAt (layout_of g) chips.now) z j (recordAt (layout_of g) records.now j) role)
+    requires { ChipsFit g chips.now × RecordsFit g records.now × (length work.old ≡ g.w) × (j < g.s) × (parity ≡ parity_chip (layout_of g) j) × (parity ≤ g.n)
+        × (record_sound (layout_of g) (record_at (layout_of g) records.now j) ≡ true) }
+    ensures { (z : ℕ → List ℕ) → Into (through_full (layout_of g) (page_at (layout_of g) chips.now) z j (record_at (layout_of g) records.now j) role)
         (begun fresh work.old) work.new result }
 {
     let p = first_number(records, g, j, role);
@@ -199,7 +199,7 @@ fn through_parity(
 // Whether it is a current page in the partial parity.
 fn is_inside(records: &[u8], g: Geometry, j: usize, role: Role) -> bool
     requires { RecordsFit g records.now × (j < g.s) × RoleFits g role }
-    ensures { result ≡ isInside (recordAt (layout_of g) records.now j) role }
+    ensures { result ≡ is_inside (record_at (layout_of g) records.now j) role }
 {
     match role {
         Role::Current(m) => bit_of(bitmap_at(records, g, j), m),
@@ -221,8 +221,8 @@ fn rebuild(
     fresh: bool,
 ) -> Got
     requires { ChipsFit g chips.now × RecordsFit g records.now × SlotsFit g slots.now × (length work.old ≡ g.w) × (j < g.s)
-        × (parity ≡ parityChip (layout_of g) j) × (parity ≤ g.n) × RoleFits g role × (recordSound (layout_of g) (recordAt (layout_of g) records.now j) ≡ true) }
-    ensures { Into (rebuilt (layout_of g) (pageAt (layout_of g) chips.now) (slotAt (layout_of g) slots.now) j (recordAt (layout_of g) records.now j) role)
+        × (parity ≡ parity_chip (layout_of g) j) × (parity ≤ g.n) × RoleFits g role × (record_sound (layout_of g) (record_at (layout_of g) records.now j) ≡ true) }
+    ensures { Into (rebuilt (layout_of g) (page_at (layout_of g) chips.now) (slot_at (layout_of g) slots.now) j (record_at (layout_of g) records.now j) role)
         (begun fresh work.old) work.new result }
 {
     if is_inside(records, g, j, role) {
@@ -235,7 +235,7 @@ fn rebuild(
 // The chip of a page in this role, of a stripe whose parity is on chip `parity`.
 fn chip_of(g: Geometry, parity: usize, role: Role) -> usize
     requires { (limits (layout_of g) ≡ true) × (parity ≤ g.n) × RoleFits g role }
-    ensures { ((j : ℕ) → parity ≡ parityChip (layout_of g) j → result ≡ chipIn (layout_of g) j role) × (result ≤ g.n) }
+    ensures { ((j : ℕ) → parity ≡ parity_chip (layout_of g) j → result ≡ chip_in (layout_of g) j role) × (result ≤ g.n) }
 {
     match role {
         Role::Current(m) => chip_beside(parity, m),
@@ -247,7 +247,7 @@ fn chip_of(g: Geometry, parity: usize, role: Role) -> usize
 // Its number in the record.
 fn number_named(records: &[u8], g: Geometry, j: usize, role: Role) -> usize
     requires { RecordsFit g records.now × (j < g.s) × RoleFits g role }
-    ensures { result ≡ number_in (layout_of g) (recordAt (layout_of g) records.now j) role }
+    ensures { result ≡ number_in (layout_of g) (record_at (layout_of g) records.now j) role }
 {
     match role {
         Role::Current(m) => number_in(records, g, j, m),
@@ -259,7 +259,7 @@ fn number_named(records: &[u8], g: Geometry, j: usize, role: Role) -> usize
 // The role of page p of chip c, which the record of stripe j names.
 pub fn role_of(records: &[u8], g: Geometry, j: usize, c: usize, p: usize) -> Role
     requires { RecordsFit g records.now × (j < g.s) × (c ≤ g.n) }
-    ensures { (result ≡ roleOf (layout_of g) c j (recordAt (layout_of g) records.now j) p) × RoleFits g result }
+    ensures { (result ≡ role_of (layout_of g) c j (record_at (layout_of g) records.now j) p) × RoleFits g result }
 {
     let parity = parity_chip(g, j);
     if c == parity {
@@ -286,8 +286,8 @@ pub fn fetch(
     fresh: bool,
 ) -> Got
     requires { ChipsFit g chips.now × RecordsFit g records.now × SlotsFit g slots.now × (length work.old ≡ g.w) × (j < g.s) × RoleFits g role
-        × (recordSound (layout_of g) (recordAt (layout_of g) records.now j) ≡ true) }
-    ensures { Into (fetchIn (layout_of g) (images chips.now records.now slots.now) lost j role)
+        × (record_sound (layout_of g) (record_at (layout_of g) records.now j) ≡ true) }
+    ensures { Into (fetch_in (layout_of g) (images chips.now records.now slots.now) lost j role)
         (begun fresh work.old) work.new result }
 {
     let p = number_named(records, g, j, role);
@@ -321,9 +321,9 @@ pub fn fetch_member(
     m: usize,
 ) -> Got
     requires { ChipsFit g chips.now × RecordsFit g records.now × SlotsFit g slots.now × (length buffer.old ≡ g.w) × (j < g.s) × (m < g.n)
-        × (recordSound (layout_of g) (recordAt (layout_of g) records.now j) ≡ true) }
+        × (record_sound (layout_of g) (record_at (layout_of g) records.now j) ≡ true) }
     ensures { (record { bytes = buffer.new; reads = result.reads; origin = result.origin }
-        ≡ fetchMember (layout_of g) (images chips.now records.now slots.now) lost j m)
+        ≡ fetch_member (layout_of g) (images chips.now records.now slots.now) lost j m)
         × (result.reads ≤ 7) }
 {
     let role = Role::Current(m);
@@ -339,8 +339,8 @@ pub fn is_direct(
     parity: usize,
     m: usize,
 ) -> bool
-    requires { RecordsFit g records.now × (j < g.s) × (m < g.n) × (parity ≡ parityChip (layout_of g) j) }
-    ensures { result ≡ isDirect (layout_of g) (recordAt (layout_of g) records.now j) lost j m }
+    requires { RecordsFit g records.now × (j < g.s) × (m < g.n) × (parity ≡ parity_chip (layout_of g) j) }
+    ensures { result ≡ is_direct (layout_of g) (record_at (layout_of g) records.now j) lost j m }
 {
     (number_in(records, g, j, m) != NONE) & (chip_beside(parity, m) != lost)
 }
@@ -356,9 +356,9 @@ pub fn lent<'a>(
     m: usize,
     direct: bool,
 ) -> &'a [u8]
-    requires { ChipsFit g chips.now × RecordsFit g records.now × (length work.now ≡ g.w) × (j < g.s) × (m < g.n) × (parity ≡ parityChip (layout_of g) j)
-        × (direct ≡ true → (recordAt (layout_of g) records.now j).current m < pages (layout_of g)) }
-    ensures { (result.now ≡ cond direct (pageAt (layout_of g) chips.now (memberChip (layout_of g) j m) ((recordAt (layout_of g) records.now j).current m)).bytes work.now)
+    requires { ChipsFit g chips.now × RecordsFit g records.now × (length work.now ≡ g.w) × (j < g.s) × (m < g.n) × (parity ≡ parity_chip (layout_of g) j)
+        × (direct ≡ true → (record_at (layout_of g) records.now j).current m < pages (layout_of g)) }
+    ensures { (result.now ≡ cond direct (page_at (layout_of g) chips.now (member_chip (layout_of g) j m) ((record_at (layout_of g) records.now j).current m)).bytes work.now)
         × (length result.now ≡ g.w) }
 {
     if direct {
@@ -380,9 +380,9 @@ pub fn read_member(
     m: usize,
 ) -> Got
     requires { ChipsFit g chips.now × RecordsFit g records.now × SlotsFit g slots.now × (length buffer.old ≡ g.w) × (j < g.s) × (m < g.n)
-        × (recordSound (layout_of g) (recordAt (layout_of g) records.now j) ≡ true) }
+        × (record_sound (layout_of g) (record_at (layout_of g) records.now j) ≡ true) }
     ensures { record { bytes = buffer.new; reads = result.reads; origin = result.origin }
-        ≡ fetchMember (layout_of g) (images chips.now records.now slots.now) lost j m }
+        ≡ fetch_member (layout_of g) (images chips.now records.now slots.now) lost j m }
 {
     if member_chip(g, j, m) != lost {
         return fetch_member(buffer, chips, records, slots, g, lost, j, m);

@@ -2,8 +2,8 @@
 
 ghost use Rattle.std.specs.Prelude.{List, ℕ, ◌+◌};
 ghost use Rattle.layout.specs.Layout.{layout_of};
-ghost use Rattle.steps.specs.Steps.{stepsBelow};
-ghost use Rattle.rules.specs.Format.{eraseChip, emptyStripe, formatSteps};
+ghost use Rattle.steps.specs.Steps.{steps_below};
+ghost use Rattle.rules.specs.Format.{erase_chip, empty_stripe, format_steps};
 ghost use Rattle.codec.specs.Fit.{ChipsFit, RecordsFit};
 ghost use Rattle.steps.specs.Allowance.{Sane, Ran, images};
 
@@ -16,7 +16,7 @@ use steps::Progress;
 // Erases the blocks of every chip. The blocks follow each other in the image as in the list, so the first of them are one part of it.
 fn erase_chips(chips: &mut [u8], g: Geometry, p: Progress) -> Progress
     requires { ChipsFit g chips.old × Sane p }
-    ensures { (rs zs : List ℕ) → Ran (layout_of g) p (stepsBelow (g.n + 1) (eraseChip (layout_of g)))
+    ensures { (rs zs : List ℕ) → Ran (layout_of g) p (steps_below (g.n + 1) (erase_chip (layout_of g)))
         result (images chips.old rs zs) (images chips.new rs zs) }
 {
     let blocks = (g.n + 1) * g.b;
@@ -28,7 +28,7 @@ fn erase_chips(chips: &mut [u8], g: Geometry, p: Progress) -> Progress
 // Stores the empty record for every stripe.
 fn empty_records(records: &mut [u8], g: Geometry, p: Progress) -> Progress
     requires { RecordsFit g records.old × Sane p }
-    ensures { (cs zs : List ℕ) → Ran (layout_of g) p (stepsBelow g.s (emptyStripe (layout_of g)))
+    ensures { (cs zs : List ℕ) → Ran (layout_of g) p (steps_below g.s (empty_stripe (layout_of g)))
         result (images cs records.old zs) (images cs records.new zs) }
 {
     let n = held(p, g.s as usize);
@@ -39,7 +39,7 @@ fn empty_records(records: &mut [u8], g: Geometry, p: Progress) -> Progress
 // The whole list.
 pub fn format_all(chips: &mut [u8], records: &mut [u8], g: Geometry, p: Progress) -> Progress
     requires { ChipsFit g chips.old × RecordsFit g records.old × Sane p }
-    ensures { (zs : List ℕ) → Ran (layout_of g) p (formatSteps (layout_of g))
+    ensures { (zs : List ℕ) → Ran (layout_of g) p (format_steps (layout_of g))
         result (images chips.old records.old zs) (images chips.new records.new zs) }
 {
     let erased = erase_chips(chips, g, p);

@@ -12,66 +12,66 @@ use lib.Pow.{pow_pos, pow_mono, pow-lt, pow-add, shl-shr, shr-shr}
 use borrow.Author.Tests.{eqb-false, ltb-true, ltb-false}
 use Rattle.layout.specs.Record.{Record, bit}
 
-abbrev pub testBit : ℕ → ℕ → Bool
-testBit b m = eqb (b / 2 ^ m % 2) 1
+abbrev pub test_bit : ℕ → ℕ → Bool
+test_bit b m = eqb (b / 2 ^ m % 2) 1
 
-pub bit_test : (r : Record) (m : ℕ) → bit r m ≡ testBit r.bitmap m
+pub bit_test : (r : Record) (m : ℕ) → bit r m ≡ test_bit r.bitmap m
 unfolding bit
 bit_test r m = refl
 
-pub test-above : (b n m : ℕ) → b < 2 ^ n → n ≤ m → testBit b m ≡ false
-test-above b n m h l = rw (div-eq_of_lt (lt_of_lt_of_le h (pow_mono l)))
+pub test_above : (b n m : ℕ) → b < 2 ^ n → n ≤ m → test_bit b m ≡ false
+test_above b n m h l = rw (div-eq_of_lt (lt_of_lt_of_le h (pow_mono l)))
 
-pub test_zero : (m : ℕ) → testBit 0 m ≡ false
-test_zero m = test-above 0 0 m (zero-lt-suc 0) (omega arith)
+pub test_zero : (m : ℕ) → test_bit 0 m ≡ false
+test_zero m = test_above 0 0 m (zero-lt-suc 0) (omega arith)
 
 -- ---- a bit set
 
-or-digit : (b c k : ℕ) → bit_or b c / 2 ^ k % 2 ≡ bit_or (b / 2 ^ k % 2) (c / 2 ^ k % 2)
-or-digit b c k = rw (or_shr b c k) (or_mod (b / 2 ^ k) (c / 2 ^ k) 1)
+or_digit : (b c k : ℕ) → bit_or b c / 2 ^ k % 2 ≡ bit_or (b / 2 ^ k % 2) (c / 2 ^ k % 2)
+or_digit b c k = rw (or_shr b c k) (or_mod (b / 2 ^ k) (c / 2 ^ k) 1)
 
-or-one : (x : ℕ) → x < 2 → bit_or x 1 ≡ 1
-or-one zero h = refl
-or-one (suc zero) h = refl
-or-one (suc (suc x)) h = omega arith
+or_one : (x : ℕ) → x < 2 → bit_or x 1 ≡ 1
+or_one zero h = refl
+or_one (suc zero) h = refl
+or_one (suc (suc x)) h = omega arith
 
-shifted-digit : (j k : ℕ) → 2 ^ (suc j + k) / 2 ^ k % 2 ≡ 0
-shifted-digit j k = rw (pow-add 2 (suc j) k, shl-shr (2 ^ suc j) k, pow-suc 2 j) (mul-mod_left (2 ^ j) 2)
+shifted_digit : (j k : ℕ) → 2 ^ (suc j + k) / 2 ^ k % 2 ≡ 0
+shifted_digit j k = rw (pow-add 2 (suc j) k, shl-shr (2 ^ suc j) k, pow-suc 2 j) (mul-mod_left (2 ^ j) 2)
 
 -- the digits of 2 ^ m, but the one at m
-other-digit : (m k : ℕ) → k ≢ m → (t : Bool) → ltb k m ≡ t → 2 ^ m / 2 ^ k % 2 ≡ 0
-other-digit m k h true q =
+other_digit : (m k : ℕ) → k ≢ m → (t : Bool) → ltb k m ≡ t → 2 ^ m / 2 ^ k % 2 ≡ 0
+other_digit m k h true q =
     let l : k < m = ltb-true k m q in
     let p : suc (m - suc k) + k ≡ m = omega arith in
-    rw p at (shifted-digit (m - suc k) k)
-other-digit m k h false q = rw (div-eq_of_lt (pow-lt {i = m} {j = k} (omega (arith, ltb-false k m q))))
+    rw p at (shifted_digit (m - suc k) k)
+other_digit m k h false q = rw (div-eq_of_lt (pow-lt {i = m} {j = k} (omega (arith, ltb-false k m q))))
 
-pub test-set-same : (b m : ℕ) → testBit (bit_or b (2 ^ m)) m ≡ true
-test-set-same b m = rw (or-digit b (2 ^ m) m, div_self (pow_pos m), or-one (b / 2 ^ m % 2) (mod-lt (b / 2 ^ m) (zero-lt-suc 1)))
+pub test_set_same : (b m : ℕ) → test_bit (bit_or b (2 ^ m)) m ≡ true
+test_set_same b m = rw (or_digit b (2 ^ m) m, div_self (pow_pos m), or_one (b / 2 ^ m % 2) (mod-lt (b / 2 ^ m) (zero-lt-suc 1)))
 
-pub test-set-other : (b m k : ℕ) → k ≢ m → testBit (bit_or b (2 ^ m)) k ≡ testBit b k
-test-set-other b m k h = rw (or-digit b (2 ^ m) k, other-digit m k h (ltb k m) refl, or_zero_r (b / 2 ^ k % 2))
+pub test_set_other : (b m k : ℕ) → k ≢ m → test_bit (bit_or b (2 ^ m)) k ≡ test_bit b k
+test_set_other b m k h = rw (or_digit b (2 ^ m) k, other_digit m k h (ltb k m) refl, or_zero_r (b / 2 ^ k % 2))
 
-pub set-bound : (b m n : ℕ) → b < 2 ^ n → m < n → bit_or b (2 ^ m) < 2 ^ n
-set-bound b m n h l = or_lt n b (2 ^ m) h (pow-lt l)
+pub set_bound : (b m n : ℕ) → b < 2 ^ n → m < n → bit_or b (2 ^ m) < 2 ^ n
+set_bound b m n h l = or_lt n b (2 ^ m) h (pow-lt l)
 
-pub set-nonzero : (b m : ℕ) → bit_or b (2 ^ m) ≢ 0
-set-nonzero b m e = true≢false (sym (test-set-same b m) ∙ ap (λ (x : ℕ). testBit x m) e ∙ test_zero m)
+pub set_nonzero : (b m : ℕ) → bit_or b (2 ^ m) ≢ 0
+set_nonzero b m e = true≢false (sym (test_set_same b m) ∙ ap (λ (x : ℕ). test_bit x m) e ∙ test_zero m)
 
 -- ---- a number by its bits
 
-test-half : (b m : ℕ) → testBit b (suc m) ≡ testBit (b / 2) m
-test-half b m = rw (← one-add m, ← shr-shr b 1 m)
+test_half : (b m : ℕ) → test_bit b (suc m) ≡ test_bit (b / 2) m
+test_half b m = rw (← one-add m, ← shr-shr b 1 m)
 
 -- the lowest bit is set, or the half has one that is
-find-bit : (n b : ℕ) → b ≢ 0 → (b / 2 ≢ 0 → (m : ℕ) × (m < n) × (testBit (b / 2) m ≡ true)) → (t : Bool) → testBit b 0 ≡ t
-    → (m : ℕ) × (m < suc n) × (testBit b m ≡ true)
-find-bit n b h ih true q = (0, zero-lt-suc n, q)
-find-bit n b h ih false q =
+find_bit : (n b : ℕ) → b ≢ 0 → (b / 2 ≢ 0 → (m : ℕ) × (m < n) × (test_bit (b / 2) m ≡ true)) → (t : Bool) → test_bit b 0 ≡ t
+    → (m : ℕ) × (m < suc n) × (test_bit b m ≡ true)
+find_bit n b h ih true q = (0, zero-lt-suc n, q)
+find_bit n b h ih false q =
     let r = ih (omega (arith, div-one b, eqb-false (b / 1 % 2) 1 q)) in
-    (suc r.0, suc-le-suc r.1, test-half b r.0 ∙ r.2)
+    (suc r.0, suc-le-suc r.1, test_half b r.0 ∙ r.2)
 
-pub nonzero-has-bit : (n b : ℕ) → b < 2 ^ n → b ≢ 0 → (m : ℕ) × (m < n) × (testBit b m ≡ true)
-nonzero-has-bit zero b h k = absurd (omega arith)
-nonzero-has-bit (suc n) b h k =
-    find-bit n b k (nonzero-has-bit n (b / 2) (omega (arith, pow-suc 2 n))) (testBit b 0) refl
+pub nonzero_has_bit : (n b : ℕ) → b < 2 ^ n → b ≢ 0 → (m : ℕ) × (m < n) × (test_bit b m ≡ true)
+nonzero_has_bit zero b h k = absurd (omega arith)
+nonzero_has_bit (suc n) b h k =
+    find_bit n b k (nonzero_has_bit n (b / 2) (omega (arith, pow-suc 2 n))) (test_bit b 0) refl

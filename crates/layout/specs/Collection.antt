@@ -1,8 +1,8 @@
 -- Document 01, "Records": the collection record, the last of the S + 1.
 use Rattle.std.specs.Prelude.{ℕ, ◌-◌, List, ◌∷◌, ◌++◌, get_or}
-use Rattle.bytes.specs.Number.{number, digits}
-use Rattle.bytes.specs.Units.{part, unit}
-use Rattle.layout.specs.Layout.{Layout, recordBytes}
+use Rattle.octets.specs.Number.{number, digits}
+use Rattle.octets.specs.Units.{part, unit}
+use Rattle.layout.specs.Layout.{Layout, record_bytes}
 
 -- "phase (0, 1, 2), chip, victim block (2 bytes), destination block (2 bytes), then zeros"
 pub record Collection : Type 0 where
@@ -21,23 +21,23 @@ module _ (l : Layout) where
   open l use {S}
 
   -- the collection record that 32 bytes hold
-  unfoldable pub collectionOf : List ℕ → Collection
-  collectionOf xs =
+  unfoldable pub collection_of : List ℕ → Collection
+  collection_of xs =
       record {
         phase = get_or xs 0 0;
         chip = get_or xs 1 0;
         victim = number (part 2 2 xs);
         destination = number (part 4 2 xs);
-        rest = number (part 6 (recordBytes l - 6) xs);
+        rest = number (part 6 (record_bytes l - 6) xs);
       }
 
   -- the bytes of one that is stored
-  unfoldable pub bytesOfCollection : Collection → List ℕ
-  bytesOfCollection co =
+  unfoldable pub bytes_of_collection : Collection → List ℕ
+  bytes_of_collection co =
       co.phase
       ∷ co.chip
-      ∷ (digits 2 co.victim ++ (digits 2 co.destination ++ digits (recordBytes l - 6) co.rest))
+      ∷ (digits 2 co.victim ++ (digits 2 co.destination ++ digits (record_bytes l - 6) co.rest))
 
   -- "The last record is the collection record"
-  unfoldable pub collectionAt : List ℕ → Collection
-  collectionAt records = collectionOf (unit (recordBytes l) S records)
+  unfoldable pub collection_at : List ℕ → Collection
+  collection_at records = collection_of (unit (record_bytes l) S records)

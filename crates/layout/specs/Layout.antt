@@ -24,8 +24,8 @@ abbrev pub layout_of : Geometry → Layout
 layout_of g = record { N = g.n; W = g.w; K = g.k; B = g.b; S = g.s; M = g.m; D = 2 }
 
 -- the lost chip where none is: "none (255)"
-abbrev pub noChip : ℕ
-noChip = 255
+abbrev pub no_chip : ℕ
+no_chip = 255
 
 module _ (l : Layout) where
   open l use {N, W, K, B, S, M, D}
@@ -43,40 +43,40 @@ module _ (l : Layout) where
   pages = B * K
 
   -- "Page number = block × K + place in block."
-  abbrev pub pageIn : ℕ → ℕ → ℕ
-  pageIn b i = b * K + i
+  abbrev pub page_in : ℕ → ℕ → ℕ
+  page_in b i = b * K + i
 
   -- page p is in block b
   abbrev pub in_block : ℕ → ℕ → Bool
   in_block b p = leb (b * K) p && ltb p (b * K + K)
 
   -- "pages of W + 8 bytes"
-  abbrev pub pageBytes : ℕ
-  pageBytes = W + 8
+  abbrev pub page_bytes : ℕ
+  page_bytes = W + 8
 
   -- "its own stretch of the chip image": the bytes of a chip
-  abbrev pub chipBytes : ℕ
-  chipBytes = pages * pageBytes
+  abbrev pub chip_bytes : ℕ
+  chip_bytes = pages * page_bytes
 
   -- "records of 32 bytes"
-  abbrev pub recordBytes : ℕ
-  recordBytes = 16 * D
+  abbrev pub record_bytes : ℕ
+  record_bytes = 16 * D
 
   -- page numbers of one or two bytes, whose limits are those of document 01; wider ones have those of document 02, 8
   abbrev short : Bool
   short = leb D 2
 
   -- "K .., 2 to 128"
-  abbrev pub mostK : ℕ
-  mostK = cond short 128 256
+  abbrev pub most_k : ℕ
+  most_k = cond short 128 256
 
   -- "B .., 2 to 1,024"
-  abbrev pub mostB : ℕ
-  mostB = cond short 1024 65535
+  abbrev pub most_b : ℕ
+  most_b = cond short 1024 65535
 
   -- "B × K at most 65,535": each page has a number, and the largest is none
-  abbrev pub mostPages : ℕ
-  mostPages = none
+  abbrev pub most_pages : ℕ
+  most_pages = none
 
   -- "N .., 2 to 6"; "W .., 16 to 4,096, a multiple of 16"
   abbrev pub sizes : Bool
@@ -86,9 +86,9 @@ module _ (l : Layout) where
   unfoldable pub limits : Bool
   limits =
       sizes
-      && leb 2 K && leb K mostK
-      && leb 2 B && leb B mostB
-      && leb (B * K) mostPages
+      && leb 2 K && leb K most_k
+      && leb 2 B && leb B most_b
+      && leb (B * K) most_pages
       && leb 1 S && leb S 65535
       && leb 1 M && leb M 254
       && leb (S + M + 1) ((B - 1) * K)

@@ -2,15 +2,15 @@
 use Rattle.std.specs.Prelude.{true, false, replicate, ℕ}
 use Rattle.ranges.specs.declared.Found.TheVariants.{Nothing}
 use Rattle.layout.specs.Layout.{Layout}
-use Rattle.layout.specs.Page.{pageAt}
-use Rattle.layout.specs.Record.{recordAt}
+use Rattle.layout.specs.Page.{page_at}
+use Rattle.layout.specs.Record.{record_at}
 use Rattle.layout.specs.Images.{Images}
 use Rattle.rules.specs.declared.Refusal.{Refusal}
 use Rattle.rules.specs.declared.Check.{Check}
 use Rattle.rules.specs.declared.Check.TheVariants.{Passed, Failed}
-use Rattle.records.specs.Slots.{slotScan}
+use Rattle.records.specs.Slots.{slot_scan}
 use Rattle.spares.specs.declared.ChipScan.{ChipScan}
-use Rattle.spares.specs.Scans.{chipScans}
+use Rattle.spares.specs.Scans.{chip_scans}
 use Rattle.looks.specs.declared.Look.{Look}
 
 -- rows below others count where those above have passed
@@ -36,7 +36,7 @@ abbrev pub look_of : Layout → Images → ℕ → Check → Look
 look_of l s lost Passed =
     record {
       check = Passed;
-      chips = chipScans l (recordAt l s.records) (pageAt l s.chips) lost l.B;
-      slots = slotScan l (recordAt l s.records);
+      chips = chip_scans l (record_at l s.records) (page_at l s.chips) lost l.B;
+      slots = slot_scan l (record_at l s.records);
     }
 look_of l s lost (Failed r) = nothing r

@@ -4,7 +4,7 @@
 ghost use Rattle.std.specs.Prelude.{◌≡◌, ◌*◌, ltb};
 ghost use Rattle.layout.specs.Layout.{layout_of};
 ghost use Rattle.rules.specs.declared.Check.TheVariants.{Passed};
-ghost use Rattle.rules.specs.Refusals.{unless, checked, buffersRows, imagesRows, settledRows};
+ghost use Rattle.rules.specs.Refusals.{unless, checked, buffers_rows, images_rows, settled_rows};
 ghost use Rattle.steps.specs.Allowance.{images};
 ghost use Rattle.looks.specs.Looks.{below, nothing, look_of};
 
@@ -28,7 +28,7 @@ pub struct Look {
 
 // Rows 1 and 2 of the table of refusals.
 pub fn buffers_check(g: Geometry, chips: &[u8], records: &[u8], slots: &[u8]) -> Check
-    ensures { result ≡ checked (buffersRows (layout_of g) (images chips.now records.now slots.now)) }
+    ensures { result ≡ checked (buffers_rows (layout_of g) (images chips.now records.now slots.now)) }
 {
     if !geometry_passes(g) {
         return Check::Failed(Refusal::Geometry);
@@ -65,7 +65,7 @@ fn refused(r: Refusal) -> Look
 // Rows 1 to 5.
 pub fn images_look(g: Geometry, chips: &[u8], records: &[u8], slots: &[u8], lost: usize) -> Look
     ensures { result ≡ look_of (layout_of g) (images chips.now records.now slots.now) lost
-        (checked (imagesRows (layout_of g) (images chips.now records.now slots.now) lost)) }
+        (checked (images_rows (layout_of g) (images chips.now records.now slots.now) lost)) }
 {
     let first = buffers_check(g, chips, records, slots);
     if let Check::Failed(r) = first {
@@ -96,7 +96,7 @@ pub fn images_look(g: Geometry, chips: &[u8], records: &[u8], slots: &[u8], lost
 // Rows 1 to 6.
 pub fn settled_look(g: Geometry, chips: &[u8], records: &[u8], slots: &[u8], lost: usize) -> Look
     ensures { result ≡ look_of (layout_of g) (images chips.now records.now slots.now) lost
-        (checked (settledRows (layout_of g) (images chips.now records.now slots.now) lost)) }
+        (checked (settled_rows (layout_of g) (images chips.now records.now slots.now) lost)) }
 {
     let look = images_look(g, chips, records, slots, lost);
     let first = look.check;

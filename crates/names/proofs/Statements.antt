@@ -7,51 +7,51 @@ use mathlib.Core.List.{List, [], ◌∷◌}
 use lib.ListN.{length, replicate, length-replicate}
 use lib.Dec.{eqb}
 use borrow.Author.Tests.{eq-eqb}
-use Rattle.ranges.specs.Look.{all_below, someBelow}
-use Rattle.ranges.proofs.Looks.{all-at}
-use Rattle.ranges.proofs.Tests.{chain-all, unless-equal}
+use Rattle.ranges.specs.Look.{all_below, some_below}
+use Rattle.ranges.proofs.Looks.{all_at}
+use Rattle.ranges.proofs.Tests.{chain_all, unless_equal}
 use Rattle.layout.specs.declared.Geometry.{Geometry}
-use Rattle.layout.specs.Layout.{Layout, layout_of, limits, noChip}
-use Rattle.layout.specs.Page.{Page, pageAt}
-use Rattle.layout.specs.Record.{Record, recordAt}
-use Rattle.layout.specs.Collection.{Collection, collectionAt}
-use Rattle.layout.specs.Images.{Images, lengths, chipsLength, recordsLength, slotsLength}
-use Rattle.layout.proofs.Limits.{Within, within as in-limits}
+use Rattle.layout.specs.Layout.{Layout, layout_of, limits, no_chip}
+use Rattle.layout.specs.Page.{Page, page_at}
+use Rattle.layout.specs.Record.{Record, record_at}
+use Rattle.layout.specs.Collection.{Collection, collection_at}
+use Rattle.layout.specs.Images.{Images, lengths, chips_length, records_length, slots_length}
+use Rattle.layout.proofs.Limits.{Within, within as in_limits}
 use Rattle.steps.specs.Allowance.{images}
-use Rattle.rules.specs.Blocks.{cleanBlock, orderedBlock}
-use Rattle.rules.specs.Sound.{collecting, stampedStripe, phase1Sound, phase2Sound, chipSound, soundOrExempt, sparesSound, isLost}
+use Rattle.rules.specs.Blocks.{clean_block, ordered_block}
+use Rattle.rules.specs.Sound.{collecting, stamped_stripe, phase1_sound, phase2_sound, chip_sound, sound_or_exempt, spares_sound, is_lost}
 use Rattle.rules.proofs.Soundness.Statements.{Usable, RecordsSound, ChipSound, Sound}
-use Rattle.rules.proofs.Soundness.RecordChecks.{records-sound}
-use Rattle.rules.proofs.Soundness.ChipChecks.{chip-sound}
-use Rattle.rules.proofs.Soundness.Checks.{images-sound, records-check-pass, spares-check-pass}
+use Rattle.rules.proofs.Soundness.RecordChecks.{records_sound_lem}
+use Rattle.rules.proofs.Soundness.ChipChecks.{chip_sound_lem}
+use Rattle.rules.proofs.Soundness.Checks.{images_sound, records_check_pass, spares_check_pass}
 use Rattle.names.specs.Stamps.{StampsPass}
 use Rattle.names.specs.Checked.{Checked}
 
 -- the tests of a chip: its named pages are rightly stamped, and in no block a used page follows a clean one
-chip-tests : (l : Layout) (r : ℕ → Record) (x : ℕ → Page) (c : ℕ) (co : Collection) → chipSound l r x c co ≡ true
-    → (all_below l.S (stampedStripe l r x c) ≡ true) × (all_below l.B (orderedBlock l x) ≡ true)
-unfolding chipSound
-chip-tests l r x c co e =
+chip_tests : (l : Layout) (r : ℕ → Record) (x : ℕ → Page) (c : ℕ) (co : Collection) → chip_sound l r x c co ≡ true
+    → (all_below l.S (stamped_stripe l r x c) ≡ true) × (all_below l.B (ordered_block l x) ≡ true)
+unfolding chip_sound
+chip_tests l r x c co e =
     let phase =
     cond (collecting co c)
-    (cond (eqb co.phase 1) (phase1Sound l r c co.destination) (phase2Sound l r x c co.victim co.destination))
-    (someBelow l.B (cleanBlock l x)) in
-    let h = chain-all (all_below l.S (stampedStripe l r x c)) (all_below l.B (orderedBlock l x) ∷ phase ∷ []) e in
+    (cond (eqb co.phase 1) (phase1_sound l r c co.destination) (phase2_sound l r x c co.victim co.destination))
+    (some_below l.B (clean_block l x)) in
+    let h = chain_all (all_below l.S (stamped_stripe l r x c)) (all_below l.B (ordered_block l x) ∷ phase ∷ []) e in
     (h.0, h.1.0)
 
-module _ (g : Geometry) (chips records : List ℕ) (h : Checked g noChip chips records) where
+module _ (g : Geometry) (chips records : List ℕ) (h : Checked g no_chip chips records) where
   abbrev l : Layout
   l = layout_of g
 
   abbrev r : ℕ → Record
-  r = recordAt l records
+  r = record_at l records
 
   abbrev co : Collection
-  co = collectionAt l records
+  co = collection_at l records
 
   -- the geometry is within the limits
   pub within : Within l
-  within = in-limits l h.chips-fit.limited
+  within = in_limits l h.chips_fit.limited
 
   -- and its page numbers are of two bytes
   pub usable : Usable l
@@ -59,53 +59,53 @@ module _ (g : Geometry) (chips records : List ℕ) (h : Checked g noChip chips r
 
   -- the records are sound, and with them the collection record
   pub stripes : RecordsSound l r co
-  stripes = records-sound l r co h.records-pass.pass
+  stripes = records_sound_lem l r co h.records_pass.pass
 
   -- the test of each chip passes
-  chip-test : (c : ℕ) → c ≤ g.n → chipSound l r (pageAt l chips c) c co ≡ true
-  unfolding sparesSound
-  chip-test c low =
-      unless-equal c noChip (chipSound l r (pageAt l chips c) c co)
-      (all-at (g.n + 1) (soundOrExempt l r (pageAt l chips) co (isLost noChip)) h.spares-pass c (omega arith))
-      (omega (arith, within.members-high))
+  chip_test : (c : ℕ) → c ≤ g.n → chip_sound l r (page_at l chips c) c co ≡ true
+  unfolding spares_sound
+  chip_test c low =
+      unless_equal c no_chip (chip_sound l r (page_at l chips c) c co)
+      (all_at (g.n + 1) (sound_or_exempt l r (page_at l chips) co (is_lost no_chip)) h.spares_pass c (omega arith))
+      (omega (arith, within.members_high))
 
   -- so each chip is sound
-  pub chip-is-sound : (c : ℕ) → c ≤ g.n → ChipSound l r (pageAt l chips c) c co
-  chip-is-sound c low = chip-sound l r (pageAt l chips c) c co (chip-test c low)
+  pub chip_is_sound : (c : ℕ) → c ≤ g.n → ChipSound l r (page_at l chips c) c co
+  chip_is_sound c low = chip_sound_lem l r (page_at l chips c) c co (chip_test c low)
 
   -- and its named pages are rightly stamped
-  pub stamps-pass : (c : ℕ) → c ≤ g.n → StampsPass g chips records c
-  stamps-pass c low = record {
-    chips-fit = h.chips-fit;
-    records-fit = h.records-pass.fit;
+  pub stamps_pass : (c : ℕ) → c ≤ g.n → StampsPass g chips records c
+  stamps_pass c low = record {
+    chips_fit = h.chips_fit;
+    records_fit = h.records_pass.fit;
     chip = low;
-    stamps = (chip-tests l r (pageAt l chips c) c co (chip-test c low)).0;
+    stamps = (chip_tests l r (page_at l chips c) c co (chip_test c low)).0;
   }
 
   -- and its blocks are in order
-  pub chip-ordered : (c : ℕ) → c ≤ g.n → all_below g.b (orderedBlock l (pageAt l chips c)) ≡ true
-  chip-ordered c low = (chip-tests l r (pageAt l chips c) c co (chip-test c low)).1
+  pub chip_ordered : (c : ℕ) → c ≤ g.n → all_below g.b (ordered_block l (page_at l chips c)) ≡ true
+  chip_ordered c low = (chip_tests l r (page_at l chips c) c co (chip_test c low)).1
 
   -- the images are sound, with any slots of their length
-  pub sound : (zs : List ℕ) → length zs ≡ slotsLength l → Sound l (images chips records zs)
+  pub sound : (zs : List ℕ) → length zs ≡ slots_length l → Sound l (images chips records zs)
   unfolding lengths
   sound zs e =
-      images-sound l (images chips records zs) (isLost noChip)
+      images_sound l (images chips records zs) (is_lost no_chip)
       (rw (
-        eq-eqb (length chips) (chipsLength l) h.chips-fit.long,
-        eq-eqb (length records) (recordsLength l) h.records-pass.fit.long,
-        eq-eqb (length zs) (slotsLength l) e,
+        eq-eqb (length chips) (chips_length l) h.chips_fit.long,
+        eq-eqb (length records) (records_length l) h.records_pass.fit.long,
+        eq-eqb (length zs) (slots_length l) e,
       ))
-      h.records-pass.pass h.spares-pass
+      h.records_pass.pass h.spares_pass
 
 -- there are slots of their length
-pub some-slots : (l : Layout) → (zs : List ℕ) × (length zs ≡ slotsLength l)
-some-slots l = (replicate {A = ℕ} (slotsLength l) 0, length-replicate {A = ℕ} (slotsLength l) 0)
+pub some_slots : (l : Layout) → (zs : List ℕ) × (length zs ≡ slots_length l)
+some_slots l = (replicate {A = ℕ} (slots_length l) 0, length-replicate {A = ℕ} (slots_length l) 0)
 
 -- sound images pass the tests
-pub checked : (g : Geometry) → limits (layout_of g) ≡ true → (s : Images) → Sound (layout_of g) s → Checked g noChip s.chips s.records
+pub checked : (g : Geometry) → limits (layout_of g) ≡ true → (s : Images) → Sound (layout_of g) s → Checked g no_chip s.chips s.records
 checked g limited s f = record {
-  chips-fit = record { limited = limited; long = f.chips };
-  records-pass = record { fit = record { limited = limited; long = f.records }; pass = records-check-pass (layout_of g) s (isLost noChip) f };
-  spares-pass = spares-check-pass (layout_of g) s (isLost noChip) f;
+  chips_fit = record { limited = limited; long = f.chips };
+  records_pass = record { fit = record { limited = limited; long = f.records }; pass = records_check_pass (layout_of g) s (is_lost no_chip) f };
+  spares_pass = spares_check_pass (layout_of g) s (is_lost no_chip) f;
 }

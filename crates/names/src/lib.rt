@@ -3,11 +3,11 @@
 ghost use Rattle.std.specs.Prelude.{◌≡◌, ℕ, ◌≤◌, ◌<◌};
 ghost use Rattle.layout.specs.Layout.{layout_of, pages};
 ghost use Rattle.layout.specs.Page.{Page};
-ghost use Rattle.layout.specs.Record.{recordAt};
+ghost use Rattle.layout.specs.Record.{record_at};
 ghost use Rattle.rules.specs.Names.{named};
 ghost use Rattle.codec.specs.Fit.{RecordsFit};
 ghost use Rattle.codec.specs.Views.{spare_of};
-ghost use Rattle.names.specs.Stamps.{pagesOn, byStamp, namesOn, StampsPass};
+ghost use Rattle.names.specs.Stamps.{pages_on, by_stamp, names_on, StampsPass};
 
 use codec::scan::{LAST, OLD, number_in};
 use codec::{DATA, NONE, PARITY, Spare, member_on, parity_chip, spare_at};
@@ -26,7 +26,7 @@ struct StripePages {
 // What the record of stripe j says of chip c.
 fn stripe_pages(records: &[u8], g: Geometry, c: usize, j: usize) -> StripePages
     requires { RecordsFit g records.now × (c ≤ g.n) × (j < g.s) }
-    ensures { result ≡ pagesOn (layout_of g) c j (recordAt (layout_of g) records.now j) }
+    ensures { result ≡ pages_on (layout_of g) c j (record_at (layout_of g) records.now j) }
 {
     let parity = parity_chip(g, j);
     if c == parity {
@@ -49,7 +49,7 @@ fn stripe_pages(records: &[u8], g: Geometry, c: usize, j: usize) -> StripePages
 // Whether page p of chip c, with these spare bytes, is named by the record of its stripe.
 fn named_by_stamp(records: &[u8], g: Geometry, c: usize, p: usize, t: Spare) -> bool
     requires { RecordsFit g records.now × (c ≤ g.n) }
-    ensures { (x : ℕ → Page) → spare_of (x p) ≡ t → result ≡ byStamp (layout_of g) (recordAt (layout_of g) records.now) x c p }
+    ensures { (x : ℕ → Page) → spare_of (x p) ≡ t → result ≡ by_stamp (layout_of g) (record_at (layout_of g) records.now) x c p }
 {
     let s = g.s as usize;
     let j = t.stripe;
@@ -63,7 +63,7 @@ fn named_by_stamp(records: &[u8], g: Geometry, c: usize, p: usize, t: Spare) -> 
 // Whether a record names page p of chip c.
 pub fn named_at(chips: &[u8], records: &[u8], g: Geometry, c: usize, p: usize) -> bool
     requires { StampsPass g chips.now records.now c × (p < pages (layout_of g)) }
-    ensures { result ≡ named (layout_of g) (recordAt (layout_of g) records.now) c p }
+    ensures { result ≡ named (layout_of g) (record_at (layout_of g) records.now) c p }
 {
     named_by_stamp(records, g, c, p, spare_at(chips, g, c, p))
 }
@@ -71,7 +71,7 @@ pub fn named_at(chips: &[u8], records: &[u8], g: Geometry, c: usize, p: usize) -
 // How many page numbers the record of stripe j has on chip c.
 pub fn names_on(records: &[u8], g: Geometry, c: usize, j: usize) -> usize
     requires { RecordsFit g records.now × (c ≤ g.n) × (j < g.s) }
-    ensures { (result ≡ namesOn (layout_of g) (recordAt (layout_of g) records.now) j c) × (result ≤ 2) }
+    ensures { (result ≡ names_on (layout_of g) (record_at (layout_of g) records.now) j c) × (result ≤ 2) }
 {
     let e = stripe_pages(records, g, c, j);
     ones(e.main != NONE) + ones(e.side != NONE)

@@ -1,17 +1,16 @@
 //! What a commit stores: the new parity page at its place, and the record.
 
 ghost use Rattle.std.specs.Prelude.{◌≡◌, true, ◌≤◌, ◌<◌, length};
-ghost use Rattle.bytes.specs.Xor.{◌⊕◌};
+ghost use Rattle.octets.specs.Xor.{◌⊕◌};
 ghost use Rattle.layout.specs.Layout.{layout_of, pages};
-ghost use Rattle.layout.specs.Record.{recordAt, hasSlot};
-ghost use Rattle.rules.specs.Sound.{recordSound};
-ghost use Rattle.rules.specs.Parity.{committed as committedRecord, commitAt};
-ghost use Rattle.steps.specs.Allowance.{mostReads, Sane, Ran, images};
+ghost use Rattle.layout.specs.Record.{record_at, has_slot};
+ghost use Rattle.rules.specs.Sound.{record_sound};
+ghost use Rattle.rules.specs.Parity.{committed as committedRecord, commit_at};
+ghost use Rattle.steps.specs.Allowance.{most_reads, Sane, Ran, images};
 ghost use Rattle.codec.specs.Fit.{ChipsFit, RecordsFit, SlotsFit};
-ghost use Rattle.codec.specs.Views.{recordFrom, SmallRecord};
-ghost use Rattle.parity.specs.Members.{membersIn, parityIn};
+ghost use Rattle.codec.specs.Views.{record_from, SmallRecord};
+ghost use Rattle.parity.specs.Members.{members_in, parity_in};
 
-use bytes::copy;
 use codec::{
     NO_SLOT, NONE, PARITY, Spare, StripeRecord, bit_of, parity_chip, record_at, slot_data,
 };
@@ -19,6 +18,7 @@ use costs::{most_in_partial, set_bits};
 use device::{program, store_record};
 use fetch::fetch;
 use layout::{Geometry, NO_CHIP};
+use octets::copy;
 use rules::Role;
 use steps::Progress;
 
@@ -34,9 +34,9 @@ fn gather_members(
     inside: bool,
 ) -> u64
     requires { ChipsFit g chips.now × RecordsFit g records.now × SlotsFit g slots.now × (length work.old ≡ g.w) × (j < g.s)
-        × (recordFrom (layout_of g) e ≡ recordAt (layout_of g) records.now j) × (recordSound (layout_of g) (recordFrom (layout_of g) e) ≡ true) }
-    ensures { (work.new ≡ work.old ⊕ (membersIn g chips.now slots.now j e inside).bytes)
-        × (result ≡ (membersIn g chips.now slots.now j e inside).reads) × (result ≤ 42) }
+        × (record_from (layout_of g) e ≡ record_at (layout_of g) records.now j) × (record_sound (layout_of g) (record_from (layout_of g) e) ≡ true) }
+    ensures { (work.new ≡ work.old ⊕ (members_in g chips.now slots.now j e inside).bytes)
+        × (result ≡ (members_in g chips.now slots.now j e inside).reads) × (result ≤ 42) }
 {
     let n = g.n as usize;
     let mut reads = 0;
@@ -67,10 +67,10 @@ fn new_parity(
     e: StripeRecord,
 ) -> u64
     requires { ChipsFit g chips.now × RecordsFit g records.now × SlotsFit g slots.now × (length work.old ≡ g.w) × (j < g.s)
-        × (recordFrom (layout_of g) e ≡ recordAt (layout_of g) records.now j) × (recordSound (layout_of g) (recordFrom (layout_of g) e) ≡ true)
-        × (hasSlot (recordFrom (layout_of g) e) ≡ true) }
-    ensures { (work.new ≡ (parityIn g chips.now slots.now j e).bytes)
-        × (result ≡ (parityIn g chips.now slots.now j e).reads) × (result ≤ mostReads) }
+        × (record_from (layout_of g) e ≡ record_at (layout_of g) records.now j) × (record_sound (layout_of g) (record_from (layout_of g) e) ≡ true)
+        × (has_slot (record_from (layout_of g) e) ≡ true) }
+    ensures { (work.new ≡ (parity_in g chips.now slots.now j e).bytes)
+        × (result ≡ (parity_in g chips.now slots.now j e).reads) × (result ≤ most_reads) }
 {
     copy(work, slot_data(slots, g, e.slot));
     if most_in_partial(g.n as usize, set_bits(g, e.bitmap)) {
@@ -84,7 +84,7 @@ fn new_parity(
 // The record with its new parity page q: no olds, no bitmap, no slot.
 fn committed(e: StripeRecord, q: usize) -> StripeRecord
     requires { SmallRecord e × (q < 65536) }
-    ensures { ((g : Geometry) → recordFrom (layout_of g) result ≡ committedRecord (layout_of g) q (recordFrom (layout_of g) e)) × SmallRecord result }
+    ensures { ((g : Geometry) → record_from (layout_of g) result ≡ committedRecord (layout_of g) q (record_from (layout_of g) e)) × SmallRecord result }
 {
     let current = e.current;
     StripeRecord {
@@ -108,8 +108,8 @@ pub fn commit_at(
     p: Progress,
 ) -> Progress
     requires { ChipsFit g chips.old × RecordsFit g records.old × SlotsFit g slots.now × (length work.old ≡ g.w) × (j < g.s) × (q < pages (layout_of g)) × Sane p
-        × (recordSound (layout_of g) (recordAt (layout_of g) records.old j) ≡ true) × (hasSlot (recordAt (layout_of g) records.old j) ≡ true) }
-    ensures { Ran (layout_of g) p (commitAt (layout_of g) j q (images chips.old records.old slots.now))
+        × (record_sound (layout_of g) (record_at (layout_of g) records.old j) ≡ true) × (has_slot (record_at (layout_of g) records.old j) ≡ true) }
+    ensures { Ran (layout_of g) p (commit_at (layout_of g) j q (images chips.old records.old slots.now))
         result (images chips.old records.old slots.now) (images chips.new records.new slots.now) }
 {
     let e = record_at(records, g, j);

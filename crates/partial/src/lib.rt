@@ -2,19 +2,19 @@
 
 ghost use Rattle.std.specs.Prelude.{◌≡◌, true, ◌≤◌, ◌<◌, length};
 ghost use Rattle.layout.specs.Layout.{layout_of, pages};
-ghost use Rattle.layout.specs.Record.{recordAt};
-ghost use Rattle.rules.specs.Sound.{recordSound};
-ghost use Rattle.rules.specs.Partial.{lowestFreeSlot, written as writtenRecord, slotSteps, writeAt};
-ghost use Rattle.steps.specs.Allowance.{mostReads, Sane, Ran, images};
+ghost use Rattle.layout.specs.Record.{record_at};
+ghost use Rattle.rules.specs.Sound.{record_sound};
+ghost use Rattle.rules.specs.Partial.{lowest_free_slot, written as writtenRecord, slot_steps, write_at};
+ghost use Rattle.steps.specs.Allowance.{most_reads, Sane, Ran, images};
 ghost use Rattle.codec.specs.Fit.{ChipsFit, RecordsFit, SlotsFit};
-ghost use Rattle.codec.specs.Views.{recordFrom, SmallRecord};
-ghost use Rattle.partial.specs.Feed.{partialIn};
+ghost use Rattle.codec.specs.Views.{record_from, SmallRecord};
+ghost use Rattle.partial.specs.Feed.{partial_in};
 
-use bytes::{copy, xor_into};
 use codec::{DATA, NO_SLOT, NONE, Spare, StripeRecord, bit_of, member_chip, record_at, slot_data};
 use device::{program, store_record, store_slot};
 use fetch::fetch;
 use layout::{Geometry, NO_CHIP};
+use octets::{copy, xor_into};
 use ranges::Found;
 use rules::Role;
 use steps::Progress;
@@ -32,9 +32,9 @@ fn new_partial(
     e: StripeRecord,
 ) -> u64
     requires { ChipsFit g chips.now × RecordsFit g records.now × SlotsFit g slots.now × (length work.old ≡ g.w) × (length bytes.now ≡ g.w) × (j < g.s) × (m < g.n)
-        × (recordFrom (layout_of g) e ≡ recordAt (layout_of g) records.now j) × (recordSound (layout_of g) (recordFrom (layout_of g) e) ≡ true) }
-    ensures { (work.new ≡ (partialIn g chips.now slots.now j m bytes.now e).bytes)
-        × (result ≡ (partialIn g chips.now slots.now j m bytes.now e).reads) × (result ≤ mostReads) }
+        × (record_from (layout_of g) e ≡ record_at (layout_of g) records.now j) × (record_sound (layout_of g) (record_from (layout_of g) e) ≡ true) }
+    ensures { (work.new ≡ (partial_in g chips.now slots.now j m bytes.now e).bytes)
+        × (result ≡ (partial_in g chips.now slots.now j m bytes.now e).reads) × (result ≤ most_reads) }
 {
     if e.slot == NO_SLOT {
         copy(work, bytes);
@@ -54,7 +54,7 @@ fn new_partial(
 // The record with page q as the current page of member m, in the partial parity of slot i.
 fn written(e: StripeRecord, m: usize, q: usize, i: usize) -> StripeRecord
     requires { SmallRecord e × (m < 6) × (q < 65536) × (i < 256) }
-    ensures { ((g : Geometry) → recordFrom (layout_of g) result ≡ writtenRecord (layout_of g) m q i (recordFrom (layout_of g) e)) × SmallRecord result }
+    ensures { ((g : Geometry) → record_from (layout_of g) result ≡ writtenRecord (layout_of g) m q i (record_from (layout_of g) e)) × SmallRecord result }
 {
     let mut next = e;
     if !bit_of(e.bitmap, m) {
@@ -81,9 +81,9 @@ fn store_partial(
     p: Progress,
 ) -> Progress
     requires { ChipsFit g chips.now × RecordsFit g records.old × SlotsFit g slots.old × (length work.old ≡ g.w) × (j < g.s) × (m < g.n) × (length bytes.now ≡ g.w)
-        × (q < pages (layout_of g)) × (recordSound (layout_of g) (recordAt (layout_of g) records.old j) ≡ true) × Sane p
-        × (free ≡ lowestFreeSlot (layout_of g) (recordAt (layout_of g) records.old)) }
-    ensures { Ran (layout_of g) p (slotSteps (layout_of g) j m bytes.now q (images chips.now records.old slots.old))
+        × (q < pages (layout_of g)) × (record_sound (layout_of g) (record_at (layout_of g) records.old j) ≡ true) × Sane p
+        × (free ≡ lowest_free_slot (layout_of g) (record_at (layout_of g) records.old)) }
+    ensures { Ran (layout_of g) p (slot_steps (layout_of g) j m bytes.now q (images chips.now records.old slots.old))
         result (images chips.now records.old slots.old) (images chips.now records.new slots.new) }
 {
     match free {
@@ -112,9 +112,9 @@ pub fn write_at(
     p: Progress,
 ) -> Progress
     requires { ChipsFit g chips.old × RecordsFit g records.old × SlotsFit g slots.old × (length work.old ≡ g.w) × (j < g.s) × (m < g.n) × (length bytes.now ≡ g.w)
-        × (q < pages (layout_of g)) × (recordSound (layout_of g) (recordAt (layout_of g) records.old j) ≡ true) × Sane p
-        × (free ≡ lowestFreeSlot (layout_of g) (recordAt (layout_of g) records.old)) }
-    ensures { Ran (layout_of g) p (writeAt (layout_of g) j m bytes.now q (images chips.old records.old slots.old))
+        × (q < pages (layout_of g)) × (record_sound (layout_of g) (record_at (layout_of g) records.old j) ≡ true) × Sane p
+        × (free ≡ lowest_free_slot (layout_of g) (record_at (layout_of g) records.old)) }
+    ensures { Ran (layout_of g) p (write_at (layout_of g) j m bytes.now q (images chips.old records.old slots.old))
         result (images chips.old records.old slots.old) (images chips.new records.new slots.new) }
 {
     let spare = Spare {

@@ -18,8 +18,8 @@ and_left a b e = (and_both a b e).0
 pub and_right : (a b : Bool) → a && b ≡ true → b ≡ true
 and_right a b e = (and_both a b e).1
 
-pub both-and : {a b : Bool} → a ≡ true → b ≡ true → a && b ≡ true
-both-and p q = rw (p, q)
+pub both_and : {a b : Bool} → a ≡ true → b ≡ true → a && b ≡ true
+both_and p q = rw (p, q)
 
 -- a && b && .., to the left as the operator nests
 abbrev pub chain : Bool → List Bool → Bool
@@ -30,16 +30,16 @@ abbrev pub AllTrue : List Bool → Type 0
 AllTrue [] = Unit
 AllTrue (b ∷ bs) = (b ≡ true) × AllTrue bs
 
-pub chain-all : (a : Bool) (bs : List Bool) → chain a bs ≡ true → (a ≡ true) × AllTrue bs
-chain-all a [] e = (e, tt)
-chain-all a (b ∷ bs) e =
-    let h = chain-all (a && b) bs e in
+pub chain_all : (a : Bool) (bs : List Bool) → chain a bs ≡ true → (a ≡ true) × AllTrue bs
+chain_all a [] e = (e, tt)
+chain_all a (b ∷ bs) e =
+    let h = chain_all (a && b) bs e in
     let ab = and_both a b h.0 in
     (ab.0, (ab.1, h.1))
 
-pub all-chain : (a : Bool) (bs : List Bool) → a ≡ true → AllTrue bs → chain a bs ≡ true
-all-chain a [] e h = e
-all-chain a (b ∷ bs) e h = all-chain (a && b) bs (both-and e h.0) h.1
+pub all_chain : (a : Bool) (bs : List Bool) → a ≡ true → AllTrue bs → chain a bs ≡ true
+all_chain a [] e h = e
+all_chain a (b ∷ bs) e h = all_chain (a && b) bs (both_and e h.0) h.1
 
 pub or_right : (a : Bool) {b : Bool} → b ≡ true → a || b ≡ true
 or_right true e = refl
@@ -50,9 +50,9 @@ pub or_else : (a b : Bool) → a || b ≡ true → a ≡ false → b ≡ true
 or_else true b e f = both true refl f
 or_else false b e f = e
 
-pub or-by : (a b : Bool) → (a ≡ false → b ≡ true) → a || b ≡ true
-or-by true b h = refl
-or-by false b h = h refl
+pub or_by : (a b : Bool) → (a ≡ false → b ≡ true) → a || b ≡ true
+or_by true b h = refl
+or_by false b h = h refl
 
 -- a disjunction that fails
 pub neither : (a b : Bool) → a || b ≡ false → (a ≡ false) × (b ≡ false)
@@ -60,60 +60,60 @@ neither true b e = both true refl e
 neither false b e = (refl, e)
 
 -- whether one of two tests fails
-pub one-fails : (a b : Bool) → not a || not b ≡ true → a && b ≡ false
-one-fails true b e = not-true b e
-one-fails false b e = refl
+pub one_fails : (a b : Bool) → not a || not b ≡ true → a && b ≡ false
+one_fails true b e = not-true b e
+one_fails false b e = refl
 
-pub none-fails : (a b : Bool) → not a || not b ≡ false → (a ≡ true) × (b ≡ true)
-none-fails a b e = let h = neither (not a) (not b) e in (not-false a h.0, not-false b h.1)
+pub none_fails : (a b : Bool) → not a || not b ≡ false → (a ≡ true) × (b ≡ true)
+none_fails a b e = let h = neither (not a) (not b) e in (not-false a h.0, not-false b h.1)
 
 pub under : (a b : Bool) → not a || b ≡ true → a ≡ true → b ≡ true
 under a b e t = or_else (not a) b e (rw t)
 
-pub under-by : (a b : Bool) → (a ≡ true → b ≡ true) → not a || b ≡ true
-under-by a b h = or-by (not a) b (λ f. h (not-false a f))
+pub under_by : (a b : Bool) → (a ≡ true → b ≡ true) → not a || b ≡ true
+under_by a b h = or_by (not a) b (λ f. h (not-false a f))
 
-pub unless-equal : (a c : ℕ) (b : Bool) → eqb a c || b ≡ true → a ≢ c → b ≡ true
-unless-equal a c b e d = or_else (eqb a c) b e (ne_eqb a c d)
+pub unless_equal : (a c : ℕ) (b : Bool) → eqb a c || b ≡ true → a ≢ c → b ≡ true
+unless_equal a c b e d = or_else (eqb a c) b e (ne_eqb a c d)
 
-pub unless-equal-by : (a c : ℕ) (b : Bool) → (a ≢ c → b ≡ true) → eqb a c || b ≡ true
-unless-equal-by a c b h = or-by (eqb a c) b (λ f. h (eqb-false a c f))
+pub unless_equal_by : (a c : ℕ) (b : Bool) → (a ≢ c → b ≡ true) → eqb a c || b ≡ true
+unless_equal_by a c b h = or_by (eqb a c) b (λ f. h (eqb-false a c f))
 
 -- a choice by its test
-pub cond-true : (a b c : Bool) → cond a b c ≡ true → a ≡ true → b ≡ true
-cond-true true b c e t = e
-cond-true false b c e t = both false t refl
+pub cond_true : (a b c : Bool) → cond a b c ≡ true → a ≡ true → b ≡ true
+cond_true true b c e t = e
+cond_true false b c e t = both false t refl
 
-pub cond-false : (a b c : Bool) → cond a b c ≡ true → a ≡ false → c ≡ true
-cond-false true b c e f = both true refl f
-cond-false false b c e f = e
+pub cond_false : (a b c : Bool) → cond a b c ≡ true → a ≡ false → c ≡ true
+cond_false true b c e f = both true refl f
+cond_false false b c e f = e
 
-pub cond-by : (a b c : Bool) → (a ≡ true → b ≡ true) → (a ≡ false → c ≡ true) → cond a b c ≡ true
-cond-by true b c yea nay = yea refl
-cond-by false b c yea nay = nay refl
+pub cond_by : (a b c : Bool) → (a ≡ true → b ≡ true) → (a ≡ false → c ≡ true) → cond a b c ≡ true
+cond_by true b c yea nay = yea refl
+cond_by false b c yea nay = nay refl
 
-pub cond-equal : (n k : ℕ) (b c : Bool) → cond (eqb n k) b c ≡ true → n ≡ k → b ≡ true
-cond-equal n k b c e q = cond-true (eqb n k) b c e (eq-eqb n k q)
+pub cond_equal : (n k : ℕ) (b c : Bool) → cond (eqb n k) b c ≡ true → n ≡ k → b ≡ true
+cond_equal n k b c e q = cond_true (eqb n k) b c e (eq-eqb n k q)
 
-pub cond-other : (n k : ℕ) (b c : Bool) → cond (eqb n k) b c ≡ true → n ≢ k → c ≡ true
-cond-other n k b c e d = cond-false (eqb n k) b c e (ne_eqb n k d)
+pub cond_other : (n k : ℕ) (b c : Bool) → cond (eqb n k) b c ≡ true → n ≢ k → c ≡ true
+cond_other n k b c e d = cond_false (eqb n k) b c e (ne_eqb n k d)
 
-pub cond-equal-by : (n k : ℕ) (b c : Bool) → (n ≡ k → b ≡ true) → (n ≢ k → c ≡ true) → cond (eqb n k) b c ≡ true
-cond-equal-by n k b c same other = cond-by (eqb n k) b c (λ t. same (eqb-true n k t)) (λ f. other (eqb-false n k f))
+pub cond_equal_by : (n k : ℕ) (b c : Bool) → (n ≡ k → b ≡ true) → (n ≢ k → c ≡ true) → cond (eqb n k) b c ≡ true
+cond_equal_by n k b c same other = cond_by (eqb n k) b c (λ t. same (eqb-true n k t)) (λ f. other (eqb-false n k f))
 
 pub cond_same : (b : Bool) (n : ℕ) → cond b n n ≡ n
 cond_same true n = refl
 cond_same false n = refl
 
 -- a test that fails
-pub false-not : (b : Bool) → b ≡ false → not b ≡ true
-false-not b f = rw f
+pub false_not : (b : Bool) → b ≡ false → not b ≡ true
+false_not b f = rw f
 
 pub differ : (a b : ℕ) → not (eqb a b) ≡ true → a ≢ b
 differ a b e = eqb-false a b (not-true (eqb a b) e)
 
-pub differ-by : (a b : ℕ) → a ≢ b → not (eqb a b) ≡ true
-differ-by a b d = false-not (eqb a b) (ne_eqb a b d)
+pub differ_by : (a b : ℕ) → a ≢ b → not (eqb a b) ≡ true
+differ_by a b d = false_not (eqb a b) (ne_eqb a b d)
 
 -- two lists are equal, by a test of their elements: so a computed row that is wrong fails at once
 module _ {A : Type 0} (same : A → A → Bool) where
@@ -123,13 +123,13 @@ module _ {A : Type 0} (same : A → A → Bool) where
   same_list (x ∷ xs) [] = false
   same_list (x ∷ xs) (y ∷ ys) = same x y && same_list xs ys
 
-  pub same-list : ((x y : A) → same x y ≡ true → x ≡ y) → (xs ys : List A) → same_list xs ys ≡ true → xs ≡ ys
-  same-list h [] [] e = refl
-  same-list h [] (y ∷ ys) e = absurd (false≢true e)
-  same-list h (x ∷ xs) [] e = absurd (false≢true e)
-  same-list h (x ∷ xs) (y ∷ ys) e =
+  pub same_list_lem : ((x y : A) → same x y ≡ true → x ≡ y) → (xs ys : List A) → same_list xs ys ≡ true → xs ≡ ys
+  same_list_lem h [] [] e = refl
+  same_list_lem h [] (y ∷ ys) e = absurd (false≢true e)
+  same_list_lem h (x ∷ xs) [] e = absurd (false≢true e)
+  same_list_lem h (x ∷ xs) (y ∷ ys) e =
       let b = and_both (same x y) (same_list xs ys) e in
-      ap₂ {C = List A} (λ a as'. a ∷ as') (h x y b.0) (same-list h xs ys b.1)
+      ap₂ {C = List A} (λ a as'. a ∷ as') (h x y b.0) (same_list_lem h xs ys b.1)
 
 pub same_rows : (xs ys : List (List ℕ)) → same_list (same_list eqb) xs ys ≡ true → xs ≡ ys
-same_rows = same-list (same_list eqb) (same-list eqb eqb-true)
+same_rows = same_list_lem (same_list eqb) (same_list_lem eqb eqb-true)

@@ -12,14 +12,14 @@ all_below zero f = true
 all_below (suc n) f = all_below n f && f n
 
 -- some number below n passes f
-unfoldable pub someBelow : ℕ → (ℕ → Bool) → Bool
-someBelow zero f = false
-someBelow (suc n) f = someBelow n f || f n
+unfoldable pub some_below : ℕ → (ℕ → Bool) → Bool
+some_below zero f = false
+some_below (suc n) f = some_below n f || f n
 
 -- how many numbers below n pass f
-unfoldable pub countBelow : ℕ → (ℕ → Bool) → ℕ
-countBelow zero f = zero
-countBelow (suc n) f = cond (f n) (suc (countBelow n f)) (countBelow n f)
+unfoldable pub count_below : ℕ → (ℕ → Bool) → ℕ
+count_below zero f = zero
+count_below (suc n) f = cond (f n) (suc (count_below n f)) (count_below n f)
 
 -- the first answer that is one
 abbrev pub or_else : Found → Found → Found
@@ -27,19 +27,19 @@ or_else (At i) next = At i
 or_else Nothing next = next
 
 -- what f makes of the number found, or else the other
-unfoldable pub whenFound : {A : Type 0} → Found → (ℕ → A) → A → A
-whenFound (At i) f other = f i
-whenFound Nothing f other = other
+unfoldable pub when_found : {A : Type 0} → Found → (ℕ → A) → A → A
+when_found (At i) f other = f i
+when_found Nothing f other = other
 
 -- the lowest number below n that passes f
-unfoldable pub firstBelow : ℕ → (ℕ → Bool) → Found
-firstBelow zero f = Nothing
-firstBelow (suc n) f = or_else (firstBelow n f) (cond (f n) (At n) Nothing)
+unfoldable pub first_below : ℕ → (ℕ → Bool) → Found
+first_below zero f = Nothing
+first_below (suc n) f = or_else (first_below n f) (cond (f n) (At n) Nothing)
 
 -- the highest number below n that passes f
-unfoldable pub lastBelow : ℕ → (ℕ → Bool) → Found
-lastBelow zero f = Nothing
-lastBelow (suc n) f = cond (f n) (At n) (lastBelow n f)
+unfoldable pub last_below : ℕ → (ℕ → Bool) → Found
+last_below zero f = Nothing
+last_below (suc n) f = cond (f n) (At n) (last_below n f)
 
 -- of the best so far and n: n where it is strictly better, so that the lowest stands on ties
 abbrev pub better : (ℕ → ℕ) → Found → ℕ → Found
@@ -47,24 +47,24 @@ better measure (At i) n = cond (ltb (measure n) (measure i)) (At n) (At i)
 better measure Nothing n = At n
 
 -- of the numbers below n that pass f, the one of least measure, lowest on ties
-unfoldable pub leastBelow : ℕ → (ℕ → Bool) → (ℕ → ℕ) → Found
-leastBelow zero f measure = Nothing
-leastBelow (suc n) f measure = cond (f n) (better measure (leastBelow n f measure) n) (leastBelow n f measure)
+unfoldable pub least_below : ℕ → (ℕ → Bool) → (ℕ → ℕ) → Found
+least_below zero f measure = Nothing
+least_below (suc n) f measure = cond (f n) (better measure (least_below n f measure) n) (least_below n f measure)
 
 -- what was found with its measure, as the code's struct; 0 where there is none
-abbrev pub leastOf : (ℕ → ℕ) → Found → Least
-leastOf measure (At i) = record { found = true; at = i; measure = measure i }
-leastOf measure Nothing = record { found = false; at = 0; measure = 0 }
+abbrev pub least_of : (ℕ → ℕ) → Found → Least
+least_of measure (At i) = record { found = true; at = i; measure = measure i }
+least_of measure Nothing = record { found = false; at = 0; measure = 0 }
 
 -- of the numbers below n
-unfoldable pub leastSoFar : (ℕ → Bool) → (ℕ → ℕ) → ℕ → Least
-leastSoFar f measure n = leastOf measure (leastBelow n f measure)
+unfoldable pub least_so_far : (ℕ → Bool) → (ℕ → ℕ) → ℕ → Least
+least_so_far f measure n = least_of measure (least_below n f measure)
 
 -- and back
-abbrev pub foundIn : Least → Found
-foundIn x = cond x.found (At x.at) Nothing
+abbrev pub found_in : Least → Found
+found_in x = cond x.found (At x.at) Nothing
 
 -- the sum of f 0, f 1, .. below n
-unfoldable pub sumBelow : ℕ → (ℕ → ℕ) → ℕ
-sumBelow zero f = 0
-sumBelow (suc n) f = sumBelow n f + f n
+unfoldable pub sum_below : ℕ → (ℕ → ℕ) → ℕ
+sum_below zero f = 0
+sum_below (suc n) f = sum_below n f + f n

@@ -1,7 +1,7 @@
 //! What a search through a range of numbers answers, and the least by a measure.
 
 ghost use Rattle.std.specs.Prelude.{◌≡◌, Bool, true, cond, ℕ, ◌+◌, ◌≤◌};
-ghost use Rattle.ranges.specs.Look.{foundIn, leastSoFar};
+ghost use Rattle.ranges.specs.Look.{found_in, least_so_far};
 
 // What a search answers.
 #[derive(Drop)]
@@ -20,7 +20,7 @@ pub struct Least {
 
 // None yet.
 pub fn no_least() -> Least
-    ensures { (f : ℕ → Bool) (m : ℕ → ℕ) → result ≡ leastSoFar f m 0 }
+    ensures { (f : ℕ → Bool) (m : ℕ → ℕ) → result ≡ least_so_far f m 0 }
 {
     Least {
         found: false,
@@ -31,7 +31,7 @@ pub fn no_least() -> Least
 
 // The least with number n, of this measure where it passes; on ties the lower number stands.
 pub fn with_next(least: Least, n: usize, passes: bool, measure: usize) -> Least
-    ensures { (f : ℕ → Bool) (m : ℕ → ℕ) → least ≡ leastSoFar f m n → passes ≡ f n → (f n ≡ true → measure ≡ m n) → result ≡ leastSoFar f m (n + 1) }
+    ensures { (f : ℕ → Bool) (m : ℕ → ℕ) → least ≡ least_so_far f m n → passes ≡ f n → (f n ≡ true → measure ≡ m n) → result ≡ least_so_far f m (n + 1) }
 {
     if !passes {
         return least;
@@ -48,7 +48,7 @@ pub fn with_next(least: Least, n: usize, passes: bool, measure: usize) -> Least
 
 // What was found.
 pub fn found_in(least: Least) -> Found
-    ensures { result ≡ foundIn least }
+    ensures { result ≡ found_in least }
 {
     if least.found {
         Found::At(least.at)

@@ -1,15 +1,15 @@
 //! The checks of the records.
 
 ghost use Rattle.std.specs.Prelude.{◌≡◌, true, ℕ, ◌+◌, ◌≤◌, ◌<◌};
-ghost use Rattle.ranges.specs.Look.{firstBelow, foundIn};
+ghost use Rattle.ranges.specs.Look.{first_below, found_in};
 ghost use Rattle.layout.specs.Layout.{layout_of, limits};
-ghost use Rattle.layout.specs.Record.{Record, recordAt};
-ghost use Rattle.layout.specs.Collection.{collectionAt};
-ghost use Rattle.rules.specs.Sound.{memberSound, recordSound, collectionSound, recordsSound};
+ghost use Rattle.layout.specs.Record.{Record, record_at};
+ghost use Rattle.layout.specs.Collection.{collection_at};
+ghost use Rattle.rules.specs.Sound.{member_sound, record_sound, collection_sound, records_sound};
 ghost use Rattle.codec.specs.Fit.{RecordsFit};
-ghost use Rattle.codec.specs.Views.{recordFrom};
-ghost use Rattle.records.specs.Slots.{slotScan, Tallied, Adds, unmarked};
-ghost use Rattle.names.specs.Stamps.{recordNames, namesLost, namesKept};
+ghost use Rattle.codec.specs.Views.{record_from};
+ghost use Rattle.records.specs.Slots.{slot_scan, Tallied, Adds, unmarked};
+ghost use Rattle.names.specs.Stamps.{record_names, names_lost, names_kept};
 
 use codec::scan::{glance_at, ranges, seen_full};
 use codec::{
@@ -23,7 +23,7 @@ use ranges::{Found, Least, found_in, no_least, ones, with_next};
 // Whether the record is sound about member m.
 fn member_passes(g: Geometry, e: StripeRecord, m: usize) -> bool
     requires { (limits (layout_of g) ≡ true) × (m < 6) }
-    ensures { result ≡ memberSound (layout_of g) (recordFrom (layout_of g) e) m }
+    ensures { result ≡ member_sound (layout_of g) (record_from (layout_of g) e) m }
 {
     let pages = (g.b * g.k) as usize;
     let n = g.n as usize;
@@ -43,7 +43,7 @@ fn member_passes(g: Geometry, e: StripeRecord, m: usize) -> bool
 // Whether a record is sound by itself, but for the zeros behind it.
 fn record_passes(g: Geometry, e: StripeRecord) -> bool
     requires { limits (layout_of g) ≡ true }
-    ensures { result ≡ recordSound (layout_of g) (recordFrom (layout_of g) e) }
+    ensures { result ≡ record_sound (layout_of g) (record_from (layout_of g) e) }
 {
     let n = g.n as usize;
     let most = g.m as usize;
@@ -64,7 +64,7 @@ fn record_passes(g: Geometry, e: StripeRecord) -> bool
 
 // How many page numbers a record has.
 fn names_of(e: StripeRecord) -> usize
-    ensures { ((g : Geometry) → result ≡ recordNames (layout_of g) (recordFrom (layout_of g) e)) × (result ≤ 13) }
+    ensures { ((g : Geometry) → result ≡ record_names (layout_of g) (record_from (layout_of g) e)) × (result ≤ 13) }
 {
     let mut names: usize = 0;
     let mut m = 0;
@@ -78,7 +78,7 @@ fn names_of(e: StripeRecord) -> usize
 // Whether the collection record is sound.
 fn collection_passes(g: Geometry, records: &[u8]) -> bool
     requires { RecordsFit g records.now }
-    ensures { result ≡ collectionSound (layout_of g) (collectionAt (layout_of g) records.now) }
+    ensures { result ≡ collection_sound (layout_of g) (collection_at (layout_of g) records.now) }
 {
     let n = g.n as usize;
     let b = g.b as usize;
@@ -167,7 +167,7 @@ fn with_record(g: Geometry, j: usize, e: StripeRecord, ends: bool, taken: bool, 
 // How many page numbers the record of stripe j has on the lost chip.
 fn names_lost(records: &[u8], g: Geometry, lost: usize, j: usize) -> usize
     requires { RecordsFit g records.now × (j < g.s) }
-    ensures { result ≡ namesLost (layout_of g) (recordAt (layout_of g) records.now) lost j }
+    ensures { result ≡ names_lost (layout_of g) (record_at (layout_of g) records.now) lost j }
 {
     if (g.n as usize) < lost {
         return 0;
@@ -178,7 +178,7 @@ fn names_lost(records: &[u8], g: Geometry, lost: usize, j: usize) -> usize
 // The lowest of the slots 0 to m that is not marked.
 fn lowest_unmarked(marks: &[bool; 256], m: usize) -> Found
     requires { m ≤ 254 }
-    ensures { result ≡ firstBelow (m + 1) (unmarked marks.now) }
+    ensures { result ≡ first_below (m + 1) (unmarked marks.now) }
 {
     let mut i = 0;
     while i <= m {
@@ -193,7 +193,7 @@ fn lowest_unmarked(marks: &[bool; 256], m: usize) -> Found
 // What the tally of all records and the table of the slots seen tell of the slots 0 to m.
 fn slots_told(t: Tally, seen: &[bool; 256], m: usize) -> SlotScan
     requires { m ≤ 254 }
-    ensures { result ≡ record { slotted = t.slotted; cheapest = foundIn t.cheapest; free = firstBelow (m + 1) (unmarked seen.now) } }
+    ensures { result ≡ record { slotted = t.slotted; cheapest = found_in t.cheapest; free = first_below (m + 1) (unmarked seen.now) } }
 {
     let least = t.cheapest;
     let cheapest = found_in(least);
@@ -208,9 +208,9 @@ fn slots_told(t: Tally, seen: &[bool; 256], m: usize) -> SlotScan
 // with a table of the slots seen. Of a record that is found plain only the page numbers matter, and of a full stripe they need no count.
 pub fn scan_records(g: Geometry, records: &[u8], lost: usize) -> RecordsScan
     requires { RecordsFit g records.now }
-    ensures { (result.sound ≡ recordsSound (layout_of g) (recordAt (layout_of g) records.now) (collectionAt (layout_of g) records.now))
-        × (result.names ≡ namesKept (layout_of g) (recordAt (layout_of g) records.now) lost)
-        × (result.slots ≡ slotScan (layout_of g) (recordAt (layout_of g) records.now)) }
+    ensures { (result.sound ≡ records_sound (layout_of g) (record_at (layout_of g) records.now) (collection_at (layout_of g) records.now))
+        × (result.names ≡ names_kept (layout_of g) (record_at (layout_of g) records.now) lost)
+        × (result.slots ≡ slot_scan (layout_of g) (record_at (layout_of g) records.now)) }
 {
     let s = g.s as usize;
     let n = g.n as usize;

@@ -3,7 +3,7 @@ use Rattle.std.specs.Prelude.{ℕ, cond, List}
 use Rattle.layout.specs.Layout.{Layout}
 use Rattle.layout.specs.Images.{Images}
 use Rattle.steps.specs.declared.Counts.{Counts}
-use Rattle.steps.specs.Steps.{Step, made, isCut, noCounts, reading, countedAll, applyAll}
+use Rattle.steps.specs.Steps.{Step, made, is_cut, no_counts, reading, counted_all, apply_all}
 use Rattle.rules.specs.declared.Check.{Check}
 use Rattle.rules.specs.declared.Check.TheVariants.{Passed, Failed}
 use Rattle.rules.specs.declared.Answer.{Answer}
@@ -14,16 +14,16 @@ use Rattle.rules.specs.declared.Standing.{Standing}
 use Rattle.rules.specs.declared.Standing.TheVariants.{Nothing}
 use Rattle.rules.specs.declared.Finding.{Finding}
 use Rattle.rules.specs.declared.Finding.TheVariants.{Done as FindDone, Refused as FindRefused}
-use Rattle.rules.specs.Refusals.{Row, refusalNumber, checked, buffersRows, imagesRows, readRows, writeRows, commitRows, collectRows, findRows, addRows}
-use Rattle.rules.specs.Open.{openSteps}
-use Rattle.rules.specs.Collect.{collectSteps}
-use Rattle.rules.specs.Commit.{commitSteps}
-use Rattle.rules.specs.Write.{writeSteps}
+use Rattle.rules.specs.Refusals.{Row, refusal_number, checked, buffers_rows, images_rows, read_rows, write_rows, commit_rows, collect_rows, find_rows, add_rows}
+use Rattle.rules.specs.Open.{open_steps}
+use Rattle.rules.specs.Collect.{collect_steps}
+use Rattle.rules.specs.Commit.{commit_steps}
+use Rattle.rules.specs.Write.{write_steps}
 use Rattle.rules.specs.Fetch.{Fetched}
 use Rattle.rules.specs.Read.{fetch}
-use Rattle.rules.specs.Origins.{originNumber}
-use Rattle.rules.specs.Format.{formatSteps}
-use Rattle.rules.specs.Log.{contents, origins, logReads, standing, logOrigin, addSteps}
+use Rattle.rules.specs.Origins.{origin_number}
+use Rattle.rules.specs.Format.{format_steps}
+use Rattle.rules.specs.Log.{contents, origins, log_reads, standing, log_origin, add_steps}
 
 -- the answer of a call that stores, and every byte of the images after it
 pub record Outcome : Type 0 where
@@ -36,55 +36,55 @@ pub record ReadOutcome : Type 0 where
   pub buffer : List ℕ
 
 -- The number of an answer: 0 for done, 255 for cut, and a refusal's own of the table.
-abbrev pub statusOf : Answer → ℕ
-statusOf (Done n) = 0
-statusOf (Cut n) = 255
-statusOf (Refused r) = refusalNumber r
+abbrev pub status_of : Answer → ℕ
+status_of (Done n) = 0
+status_of (Cut n) = 255
+status_of (Refused r) = refusal_number r
 
 -- its counts; of a refusal, "counts zero"
-abbrev pub countsOf : Answer → Counts
-countsOf (Done n) = n
-countsOf (Cut n) = n
-countsOf (Refused r) = noCounts
+abbrev pub counts_of : Answer → Counts
+counts_of (Done n) = n
+counts_of (Cut n) = n
+counts_of (Refused r) = no_counts
 
 -- the same of a read
-abbrev pub readStatusOf : Reading → ℕ
-readStatusOf (ReadDone n o) = 0
-readStatusOf (ReadRefused r) = refusalNumber r
+abbrev pub read_status_of : Reading → ℕ
+read_status_of (ReadDone n o) = 0
+read_status_of (ReadRefused r) = refusal_number r
 
 -- the same of a read
-abbrev pub readCountsOf : Reading → Counts
-readCountsOf (ReadDone n o) = n
-readCountsOf (ReadRefused r) = noCounts
+abbrev pub read_counts_of : Reading → Counts
+read_counts_of (ReadDone n o) = n
+read_counts_of (ReadRefused r) = no_counts
 
 -- the number of how its page was got; of a refusal 0
-abbrev pub readOriginOf : Reading → ℕ
-readOriginOf (ReadDone n o) = originNumber o
-readOriginOf (ReadRefused r) = 0
+abbrev pub read_origin_of : Reading → ℕ
+read_origin_of (ReadDone n o) = origin_number o
+read_origin_of (ReadRefused r) = 0
 
 -- the same of a question
-abbrev pub findStatusOf : Finding → ℕ
-findStatusOf (FindDone n x o) = 0
-findStatusOf (FindRefused r) = refusalNumber r
+abbrev pub find_status_of : Finding → ℕ
+find_status_of (FindDone n x o) = 0
+find_status_of (FindRefused r) = refusal_number r
 
 -- the same of a question
-abbrev pub findCountsOf : Finding → Counts
-findCountsOf (FindDone n x o) = n
-findCountsOf (FindRefused r) = noCounts
+abbrev pub find_counts_of : Finding → Counts
+find_counts_of (FindDone n x o) = n
+find_counts_of (FindRefused r) = no_counts
 
 -- what it gives; of a refusal nothing
-abbrev pub findStandingOf : Finding → Standing
-findStandingOf (FindDone n x o) = x
-findStandingOf (FindRefused r) = Nothing
+abbrev pub find_standing_of : Finding → Standing
+find_standing_of (FindDone n x o) = x
+find_standing_of (FindRefused r) = Nothing
 
 -- the number of how it was got, as of a read
-abbrev pub findOriginOf : Finding → ℕ
-findOriginOf (FindDone n x o) = originNumber o
-findOriginOf (FindRefused r) = 0
+abbrev pub find_origin_of : Finding → ℕ
+find_origin_of (FindDone n x o) = origin_number o
+find_origin_of (FindRefused r) = 0
 
 -- a read that is done: the pages read, how its page was got, and what they gave
-abbrev pub readInto : Fetched → ReadOutcome
-readInto x = record { answer = ReadDone (reading x.reads) x.origin; buffer = x.bytes }
+abbrev pub read_into : Fetched → ReadOutcome
+read_into x = record { answer = ReadDone (reading x.reads) x.origin; buffer = x.bytes }
 
 module _ (l : Layout) where
   -- "If the list is longer than the allowance it stops there and answers cut with the counts so far; otherwise done."
@@ -93,10 +93,10 @@ module _ (l : Layout) where
   run before allowance xs s =
       record {
         answer =
-            cond (isCut allowance xs)
-            (Cut (countedAll (made allowance xs) before))
-            (Done (countedAll (made allowance xs) before));
-        images = applyAll l (made allowance xs) s;
+            cond (is_cut allowance xs)
+            (Cut (counted_all (made allowance xs) before))
+            (Done (counted_all (made allowance xs) before));
+        images = apply_all l (made allowance xs) s;
       }
 
   -- a call that passed its checks makes its list; "the first that applies is returned, counts zero, all buffers unchanged"
@@ -105,85 +105,85 @@ module _ (l : Layout) where
   outcome (Failed r) before allowance steps s = record { answer = Refused r; images = s }
 
   -- format: images, allowance
-  unfoldable pub formatCall : Images → ℕ → Outcome
-  formatCall s allowance = outcome (checked (buffersRows l s)) noCounts allowance (λ t. formatSteps l) s
+  unfoldable pub format_call : Images → ℕ → Outcome
+  format_call s allowance = outcome (checked (buffers_rows l s)) no_counts allowance (λ t. format_steps l) s
 
   -- open: images, lost chip, allowance
-  unfoldable pub openCall : Images → ℕ → ℕ → Outcome
-  openCall s lost allowance = outcome (checked (imagesRows l s lost)) noCounts allowance (openSteps l lost) s
+  unfoldable pub open_call : Images → ℕ → ℕ → Outcome
+  open_call s lost allowance = outcome (checked (images_rows l s lost)) no_counts allowance (open_steps l lost) s
 
   -- write: images, lost chip, page, data, allowance
-  unfoldable pub writeCall : Images → ℕ → ℕ → List ℕ → ℕ → Outcome
-  writeCall s lost page xs allowance =
-      outcome (checked (writeRows l s lost page xs)) noCounts allowance (writeSteps l page xs) s
+  unfoldable pub write_call : Images → ℕ → ℕ → List ℕ → ℕ → Outcome
+  write_call s lost page xs allowance =
+      outcome (checked (write_rows l s lost page xs)) no_counts allowance (write_steps l page xs) s
 
   -- commit: images, lost chip, stripe, allowance
-  unfoldable pub commitCall : Images → ℕ → ℕ → ℕ → Outcome
-  commitCall s lost j allowance = outcome (checked (commitRows l s lost j)) noCounts allowance (commitSteps l j) s
+  unfoldable pub commit_call : Images → ℕ → ℕ → ℕ → Outcome
+  commit_call s lost j allowance = outcome (checked (commit_rows l s lost j)) no_counts allowance (commit_steps l j) s
 
   -- collect: images, lost chip, chip, allowance
-  unfoldable pub collectCall : Images → ℕ → ℕ → ℕ → Outcome
-  collectCall s lost c allowance = outcome (checked (collectRows l s lost c)) noCounts allowance (collectSteps l c) s
+  unfoldable pub collect_call : Images → ℕ → ℕ → ℕ → Outcome
+  collect_call s lost c allowance = outcome (checked (collect_rows l s lost c)) no_counts allowance (collect_steps l c) s
 
   -- a read refused leaves its buffer
-  abbrev pub readOutcome : Check → Images → ℕ → ℕ → List ℕ → ReadOutcome
-  readOutcome Passed s lost page buffer = readInto (fetch l s lost page)
-  readOutcome (Failed r) s lost page buffer = record { answer = ReadRefused r; buffer = buffer }
+  abbrev pub read_outcome : Check → Images → ℕ → ℕ → List ℕ → ReadOutcome
+  read_outcome Passed s lost page buffer = read_into (fetch l s lost page)
+  read_outcome (Failed r) s lost page buffer = record { answer = ReadRefused r; buffer = buffer }
 
   -- read: images, lost chip, page, buffer
-  unfoldable pub readCall : Images → ℕ → ℕ → List ℕ → ReadOutcome
-  readCall s lost page buffer = readOutcome (checked (readRows l s lost page buffer)) s lost page buffer
+  unfoldable pub read_call : Images → ℕ → ℕ → List ℕ → ReadOutcome
+  read_call s lost page buffer = read_outcome (checked (read_rows l s lost page buffer)) s lost page buffer
 
   -- add: images, lost chip, ticket, allowance; it "counts the log's reads .., even when cut, and the write's"
-  unfoldable pub addCall : Images → ℕ → List ℕ → ℕ → Outcome
-  addCall s lost ticket allowance =
-      outcome (checked (addRows l s lost ticket)) (reading (logReads l s lost)) allowance (addSteps l lost ticket) s
+  unfoldable pub add_call : Images → ℕ → List ℕ → ℕ → Outcome
+  add_call s lost ticket allowance =
+      outcome (checked (add_rows l s lost ticket)) (reading (log_reads l s lost)) allowance (add_steps l lost ticket) s
 
   -- a question is answered from the log
-  abbrev pub findOutcome : Check → Images → ℕ → ℕ → ℕ → Finding
-  findOutcome Passed s lost lot bag =
-      FindDone (reading (logReads l s lost)) (standing l (contents l s lost) lot bag)
-      (logOrigin l (contents l s lost) (origins l s lost) lot bag)
-  findOutcome (Failed r) s lost lot bag = FindRefused r
+  abbrev pub find_outcome : Check → Images → ℕ → ℕ → ℕ → Finding
+  find_outcome Passed s lost lot bag =
+      FindDone (reading (log_reads l s lost)) (standing l (contents l s lost) lot bag)
+      (log_origin l (contents l s lost) (origins l s lost) lot bag)
+  find_outcome (Failed r) s lost lot bag = FindRefused r
 
   -- find: images, lost chip, lot, bag; it changes no byte
-  unfoldable pub findCall : Images → ℕ → ℕ → ℕ → Finding
-  findCall s lost lot bag = findOutcome (checked (findRows l s lost)) s lost lot bag
+  unfoldable pub find_call : Images → ℕ → ℕ → ℕ → Finding
+  find_call s lost lot bag = find_outcome (checked (find_rows l s lost)) s lost lot bag
 
 -- A call that only reads, with "each call's arguments but the images".
 pub data Query : Type 0 where
   -- lost chip, page, buffer
-  read-call : ℕ → ℕ → List ℕ → Query
+  read_call_lem : ℕ → ℕ → List ℕ → Query
   -- lost chip, lot, bag
-  find-call : ℕ → ℕ → ℕ → Query
+  find_call_lem : ℕ → ℕ → ℕ → Query
 
 -- A call on the images of a store, with the same.
 pub data Call : Type 0 where
   -- lost chip, allowance
-  open-call : ℕ → ℕ → Call
+  open_call_lem : ℕ → ℕ → Call
   -- lost chip, page, data, allowance
-  write-call : ℕ → ℕ → List ℕ → ℕ → Call
+  write_call_lem : ℕ → ℕ → List ℕ → ℕ → Call
   -- lost chip, stripe, allowance
-  commit-call : ℕ → ℕ → ℕ → Call
+  commit_call_lem : ℕ → ℕ → ℕ → Call
   -- lost chip, chip, allowance
-  collect-call : ℕ → ℕ → ℕ → Call
+  collect_call_lem : ℕ → ℕ → ℕ → Call
   -- lost chip, ticket, allowance
-  add-call : ℕ → List ℕ → ℕ → Call
-  query-call : Query → Call
+  add_call_lem : ℕ → List ℕ → ℕ → Call
+  query_call : Query → Call
 
 -- the chip that a query names as lost
-abbrev pub queryLost : Query → ℕ
-queryLost (read-call lost page buffer) = lost
-queryLost (find-call lost lot bag) = lost
+abbrev pub query_lost : Query → ℕ
+query_lost (read_call_lem lost page buffer) = lost
+query_lost (find_call_lem lost lot bag) = lost
 
 -- the chip that a call names as lost
-abbrev pub lostChip : Call → ℕ
-lostChip (open-call lost a) = lost
-lostChip (write-call lost page xs a) = lost
-lostChip (commit-call lost j a) = lost
-lostChip (collect-call lost c a) = lost
-lostChip (add-call lost ticket a) = lost
-lostChip (query-call q) = queryLost q
+abbrev pub lost_chip : Call → ℕ
+lost_chip (open_call_lem lost a) = lost
+lost_chip (write_call_lem lost page xs a) = lost
+lost_chip (commit_call_lem lost j a) = lost
+lost_chip (collect_call_lem lost c a) = lost
+lost_chip (add_call_lem lost ticket a) = lost
+lost_chip (query_call q) = query_lost q
 
 -- "whether the call was answered done, cut or refused"
 pub data Verdict : Type 0 where
@@ -196,9 +196,9 @@ verdict (Cut n) = cut
 verdict (Refused r) = refused
 
 -- of a query, which is never cut: what its rows come to
-abbrev pub queryVerdict : Check → Verdict
-queryVerdict Passed = done
-queryVerdict (Failed r) = refused
+abbrev pub query_verdict : Check → Verdict
+query_verdict Passed = done
+query_verdict (Failed r) = refused
 
 -- what is seen of a call from outside: its verdict, and the images that it leaves to the next
 pub record Ended : Type 0 where
@@ -211,15 +211,15 @@ stored o = record { verdict = verdict o.answer; images = o.images }
 
 module _ (l : Layout) where
   -- the rows of a query
-  unfoldable pub queryRows : Query → Images → List Row
-  queryRows (read-call lost page buffer) s = readRows l s lost page buffer
-  queryRows (find-call lost lot bag) s = findRows l s lost
+  unfoldable pub query_rows : Query → Images → List Row
+  query_rows (read_call_lem lost page buffer) s = read_rows l s lost page buffer
+  query_rows (find_call_lem lost lot bag) s = find_rows l s lost
 
   -- The table of calls: what comes of each. A query leaves the images.
   unfoldable pub ended : Call → Images → Ended
-  ended (open-call lost a) s = stored (openCall l s lost a)
-  ended (write-call lost page xs a) s = stored (writeCall l s lost page xs a)
-  ended (commit-call lost j a) s = stored (commitCall l s lost j a)
-  ended (collect-call lost c a) s = stored (collectCall l s lost c a)
-  ended (add-call lost ticket a) s = stored (addCall l s lost ticket a)
-  ended (query-call q) s = record { verdict = queryVerdict (checked (queryRows q s)); images = s }
+  ended (open_call_lem lost a) s = stored (open_call l s lost a)
+  ended (write_call_lem lost page xs a) s = stored (write_call l s lost page xs a)
+  ended (commit_call_lem lost j a) s = stored (commit_call l s lost j a)
+  ended (collect_call_lem lost c a) s = stored (collect_call l s lost c a)
+  ended (add_call_lem lost ticket a) s = stored (add_call l s lost ticket a)
+  ended (query_call q) s = record { verdict = query_verdict (checked (query_rows q s)); images = s }

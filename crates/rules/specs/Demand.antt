@@ -1,9 +1,9 @@
 -- Demand 3 as one statement, in the terms of document 01, "The price book".
 use Rattle.std.specs.Prelude.{ℕ, ◌*◌, ◌≤◌, ◌<◌, ◌≡◌, Bool, false, cond, List, [], ◌∷◌, length, eqb}
-use Rattle.bytes.specs.Units.{unitPut}
-use Rattle.layout.specs.Layout.{Layout, noChip, chipBytes}
-use Rattle.layout.specs.Rotation.{memberChip, memberOf, stripeOf}
-use Rattle.layout.specs.Record.{bit, recordAt}
+use Rattle.octets.specs.Units.{unit_put}
+use Rattle.layout.specs.Layout.{Layout, no_chip, chip_bytes}
+use Rattle.layout.specs.Rotation.{member_chip, member_of, stripe_of}
+use Rattle.layout.specs.Record.{bit, record_at}
 use Rattle.layout.specs.Images.{Images}
 use Rattle.steps.specs.declared.Counts.{Counts}
 use Rattle.rules.specs.declared.Refusal.TheVariants.{Tickets}
@@ -11,9 +11,9 @@ use Rattle.rules.specs.declared.Origin.{Origin}
 use Rattle.rules.specs.declared.Reading.TheVariants.{Done as ReadDone}
 use Rattle.rules.specs.declared.Finding.{Finding}
 use Rattle.rules.specs.declared.Finding.TheVariants.{Done as FindDone, Refused as FindRefused}
-use Rattle.rules.specs.Origins.{originBy}
-use Rattle.rules.specs.Log.{logSound, standing, logOrigin}
-use Rattle.rules.specs.Calls.{ReadOutcome, Call, lostChip, done, verdict, ended, formatCall, readCall, findCall}
+use Rattle.rules.specs.Origins.{origin_by}
+use Rattle.rules.specs.Log.{log_sound, standing, log_origin}
+use Rattle.rules.specs.Calls.{ReadOutcome, Call, lost_chip, done, verdict, ended, format_call, read_call, find_call}
 use Rattle.rules.specs.Book.{Book, finished, booked, noted}
 
 -- the images and the book together, and of which pages a write was completed since the format
@@ -23,9 +23,9 @@ pub record World : Type 0 where
   pub written : ℕ → Bool
 
 -- "each call naming that chip as lost"
-abbrev pub allName : ℕ → List Call → Type 0
-allName c [] = Unit
-allName c (call ∷ calls) = (lostChip call ≡ c) × allName c calls
+abbrev pub AllName : ℕ → List Call → Type 0
+AllName c [] = Unit
+AllName c (call ∷ calls) = (lost_chip call ≡ c) × AllName c calls
 
 module _ (l : Layout) where
   open l use {N, W, S}
@@ -41,17 +41,17 @@ module _ (l : Layout) where
       }
 
   -- "gets chips, records and slots as the last one left them, be it done, cut or refused"
-  unfoldable pub calledAll : List Call → World → World
-  calledAll [] x = x
-  calledAll (call ∷ calls) x = calledAll calls (called call x)
+  unfoldable pub called_all : List Call → World → World
+  called_all [] x = x
+  called_all (call ∷ calls) x = called_all calls (called call x)
 
   -- "Then the stretch of one chip in the chip image becomes any bytes, its own among them, and nothing else changes."
-  unfoldable pub chipTaken : ℕ → List ℕ → World → World
-  chipTaken c bytes x =
+  unfoldable pub chip_taken : ℕ → List ℕ → World → World
+  chip_taken c bytes x =
       record {
         images =
             record {
-              chips = unitPut (chipBytes l) c bytes x.images.chips;
+              chips = unit_put (chip_bytes l) c bytes x.images.chips;
               records = x.images.records;
               slots = x.images.slots;
             };
@@ -64,7 +64,7 @@ module _ (l : Layout) where
   ReadGives s lost i o ys =
       (buffer : List ℕ) → length buffer ≡ W
       → (n : Counts)
-      × (◌≡◌ {A = ReadOutcome} (readCall l s lost i buffer) (record { answer = ReadDone n o; buffer = ys }))
+      × (◌≡◌ {A = ReadOutcome} (read_call l s lost i buffer) (record { answer = ReadDone n o; buffer = ys }))
 
   -- "the read of each logical page below N × S that names that chip, into a buffer of W bytes, is not refused, and the
   -- buffer equals the book's page"
@@ -73,40 +73,40 @@ module _ (l : Layout) where
 
   -- document 02, 2: page i was written if a write of it was completed; on the chip named as lost it is rebuilt, through the partial parity
   -- if its bit is set
-  abbrev pub originOwed : ℕ → World → ℕ → Origin
-  originOwed lost x i =
-      originBy (x.written i)
-      (eqb (memberChip l (stripeOf l i) (memberOf l i)) lost)
-      (bit (recordAt l x.images.records (stripeOf l i)) (memberOf l i))
+  abbrev pub origin_owed : ℕ → World → ℕ → Origin
+  origin_owed lost x i =
+      origin_by (x.written i)
+      (eqb (member_chip l (stripe_of l i) (member_of l i)) lost)
+      (bit (record_at l x.images.records (stripe_of l i)) (member_of l i))
 
   -- each of those reads says so
   abbrev pub TellsTheOrigin : ℕ → World → Type 0
-  TellsTheOrigin lost x = (i : ℕ) → i < N * S → ReadGives x.images lost i (originOwed lost x i) (x.book i)
+  TellsTheOrigin lost x = (i : ℕ) → i < N * S → ReadGives x.images lost i (origin_owed lost x i) (x.book i)
 
   -- document 02, 1, of the book's log, with these counts: "the one standing if it is a weight, else none"; refused "with 11" where a ticket
   -- "found before the log's end" breaks the rules. And document 02, 2: how its pages were got.
-  abbrev pub bookFinding : Counts → ℕ → World → ℕ → ℕ → Finding
-  bookFinding n lost x lot bag =
-      cond (logSound l x.book)
-      (FindDone n (standing l x.book lot bag) (logOrigin l x.book (originOwed lost x) lot bag))
+  abbrev pub book_finding : Counts → ℕ → World → ℕ → ℕ → Finding
+  book_finding n lost x lot bag =
+      cond (log_sound l x.book)
+      (FindDone n (standing l x.book lot bag) (log_origin l x.book (origin_owed lost x) lot bag))
       (FindRefused Tickets)
 
   -- each question for a lot and bag that names that chip is answered so
   abbrev pub FindsTheBook : ℕ → World → Type 0
   FindsTheBook lost x =
-      (lot bag : ℕ) → (n : Counts) × (findCall l x.images lost lot bag ≡ bookFinding n lost x lot bag)
+      (lot bag : ℕ) → (n : Counts) × (find_call l x.images lost lot bag ≡ book_finding n lost x lot bag)
 
   -- "the images as a finished format left them"
   pub record Finished : Type 0 where
     pub images : Images
     pub allowance : ℕ
-    pub isDone : verdict (formatCall l images allowance).answer ≡ done
+    pub is_done : verdict (format_call l images allowance).answer ≡ done
 
   -- "The first list starts from the images as a finished format left them."
   abbrev pub start : Finished → World
   start f =
       record {
-        images = (formatCall l f.images f.allowance).images;
+        images = (format_call l f.images f.allowance).images;
         book = finished l;
         written = λ i. false;
       }
@@ -114,12 +114,12 @@ module _ (l : Layout) where
   -- what is owed after both lists: a finished format, any first list of calls, any bytes on any one chip, any second list that names it;
   -- and with no chip taken, the first list alone
   pub record AfterBothLists (Owed : ℕ → World → Type 0) : Type 0 where
-    pub oneChipTaken :
+    pub one_chip_taken :
         (f : Finished) (first : List Call) (c : ℕ) → c ≤ N
-        → (bytes : List ℕ) → length bytes ≡ chipBytes l
-        → (second : List Call) → allName c second
-        → Owed c (calledAll second (chipTaken c bytes (calledAll first (start f))))
-    pub noChipTaken : (f : Finished) (first : List Call) → Owed noChip (calledAll first (start f))
+        → (bytes : List ℕ) → length bytes ≡ chip_bytes l
+        → (second : List Call) → AllName c second
+        → Owed c (called_all second (chip_taken c bytes (called_all first (start f))))
+    pub no_chip_taken : (f : Finished) (first : List Call) → Owed no_chip (called_all first (start f))
 
   -- Demand 3: after both lists, every read gives the book's page.
   abbrev pub Demand3 : Type 0

@@ -1,13 +1,13 @@
 -- One page of a stripe, fetched in its role: what a read, a write, a commit and a copy take from the chips. y gives the pages of each
 -- chip, z the slots, and r is the record of stripe j.
 use Rattle.std.specs.Prelude.{ℕ, ◌+◌, Bool, true, cond, not, ◌&&◌, List, [], eqb}
-use Rattle.ranges.specs.Look.{sumBelow}
-use Rattle.bytes.specs.Xor.{◌⊕◌, xorBelow}
-use Rattle.layout.specs.Layout.{Layout, none, noChip, is_none}
-use Rattle.layout.specs.Rotation.{parityChip, memberChip}
-use Rattle.layout.specs.Page.{Page, pageAt}
-use Rattle.layout.specs.Record.{Record, recordAt, bit}
-use Rattle.layout.specs.Images.{Images, slotAt}
+use Rattle.ranges.specs.Look.{sum_below}
+use Rattle.octets.specs.Xor.{◌⊕◌, xor_below}
+use Rattle.layout.specs.Layout.{Layout, none, no_chip, is_none}
+use Rattle.layout.specs.Rotation.{parity_chip, member_chip}
+use Rattle.layout.specs.Page.{Page, page_at}
+use Rattle.layout.specs.Record.{Record, record_at, bit}
+use Rattle.layout.specs.Images.{Images, slot_at}
 use Rattle.steps.specs.Store.{Store}
 use Rattle.steps.specs.Steps.{Step}
 use Rattle.rules.specs.declared.Role.{Role}
@@ -27,8 +27,8 @@ pub record Feed : Type 0 where
   pub reads : ℕ
 
 -- a page that was fetched
-abbrev pub asFeed : Fetched → Feed
-asFeed x = record { bytes = x.bytes; reads = x.reads }
+abbrev pub as_feed : Fetched → Feed
+as_feed x = record { bytes = x.bytes; reads = x.reads }
 
 -- a page that was put together from others
 abbrev pub through : Origin → Feed → Fetched
@@ -57,22 +57,22 @@ module _ (l : Layout) where
       (record { bytes = (y c p).bytes; reads = 1; origin = Direct })
 
   -- the XOR over the members that are chosen
-  unfoldable pub membersFeed : (ℕ → Bool) → (ℕ → Feed) → Feed
-  membersFeed chosen f =
+  unfoldable pub members_feed : (ℕ → Bool) → (ℕ → Feed) → Feed
+  members_feed chosen f =
       record {
-        bytes = xorBelow N (λ m. cond (chosen m) (f m).bytes []);
-        reads = sumBelow N (λ m. cond (chosen m) (f m).reads 0);
+        bytes = xor_below N (λ m. cond (chosen m) (f m).bytes []);
+        reads = sum_below N (λ m. cond (chosen m) (f m).reads 0);
       }
 
   -- over all members of stripe j, each with its page f m as it stands
   unfoldable pub gathered : (ℕ → ℕ → Page) → ℕ → (ℕ → ℕ) → Feed
-  gathered y j f = membersFeed (λ m. true) (λ m. asFeed (itself y (memberChip l j m) (f m)))
+  gathered y j f = members_feed (λ m. true) (λ m. as_feed (itself y (member_chip l j m) (f m)))
 
   -- the chip of a page of stripe j
-  abbrev pub chipIn : ℕ → Role → ℕ
-  chipIn j (Current m) = memberChip l j m
-  chipIn j (Old m) = memberChip l j m
-  chipIn j Parity = parityChip l j
+  abbrev pub chip_in : ℕ → Role → ℕ
+  chip_in j (Current m) = member_chip l j m
+  chip_in j (Old m) = member_chip l j m
+  chip_in j Parity = parity_chip l j
 
   -- its number in the record
   abbrev pub number_in : Record → Role → ℕ
@@ -81,52 +81,52 @@ module _ (l : Layout) where
   number_in r Parity = r.parity
 
   -- the stored parity is the XOR of these: "old page of each set member", "current page of each .. clear one"
-  unfoldable pub underParity : Record → ℕ → ℕ
-  underParity r m = cond (bit r m) (r.old m) (r.current m)
+  unfoldable pub under_parity : Record → ℕ → ℕ
+  under_parity r m = cond (bit r m) (r.old m) (r.current m)
 
   -- the same but for member m
-  unfoldable pub othersUnderParity : ℕ → Record → ℕ → ℕ
-  othersUnderParity m r i = cond (eqb i m) (none l) (underParity r i)
+  unfoldable pub others_under_parity : ℕ → Record → ℕ → ℕ
+  others_under_parity m r i = cond (eqb i m) (none l) (under_parity r i)
 
   -- "the other pages of the bitmap"
-  unfoldable pub othersInside : ℕ → Record → ℕ → ℕ
-  othersInside m r i = cond (bit r i && not (eqb i m)) (r.current i) (none l)
+  unfoldable pub others_inside : ℕ → Record → ℕ → ℕ
+  others_inside m r i = cond (bit r i && not (eqb i m)) (r.current i) (none l)
 
   module _ (y : ℕ → ℕ → Page) (z : ℕ → List ℕ) (j : ℕ) (r : Record) where
     -- "bit set, slot ⊕ the other pages of the bitmap"
-    unfoldable pub throughPartial : ℕ → Fetched
-    throughPartial m = through Partial (xored (given (z r.slot)) (gathered y j (othersInside m r)))
+    unfoldable pub through_partial : ℕ → Fetched
+    through_partial m = through Partial (xored (given (z r.slot)) (gathered y j (others_inside m r)))
 
     -- "bit clear, parity page ⊕ old page of each set member ⊕ current page of each other clear one"
-    unfoldable pub throughParity : ℕ → Fetched
-    throughParity m =
-        through Full (xored (asFeed (itself y (parityChip l j) r.parity)) (gathered y j (othersUnderParity m r)))
+    unfoldable pub through_parity : ℕ → Fetched
+    through_parity m =
+        through Full (xored (as_feed (itself y (parity_chip l j) r.parity)) (gathered y j (others_under_parity m r)))
 
     -- the parity page from the pages under it
-    unfoldable pub parityAnew : Fetched
-    parityAnew = through Full (gathered y j (underParity r))
+    unfoldable pub parity_anew : Fetched
+    parity_anew = through Full (gathered y j (under_parity r))
 
     -- "On the lost chip, a written page is gathered"
     abbrev pub rebuilt : Role → Fetched
-    rebuilt (Current m) = cond (bit r m) (throughPartial m) (throughParity m)
-    rebuilt (Old m) = throughParity m
-    rebuilt Parity = parityAnew
+    rebuilt (Current m) = cond (bit r m) (through_partial m) (through_parity m)
+    rebuilt (Old m) = through_parity m
+    rebuilt Parity = parity_anew
 
     -- a page in its role, rebuilt where its chip is the lost one
-    unfoldable pub fetchRole : ℕ → Role → Fetched
-    fetchRole lost role =
-        cond (eqb (chipIn j role) lost && not (is_none l (number_in r role))) (rebuilt role)
-        (itself y (chipIn j role) (number_in r role))
+    unfoldable pub fetch_role : ℕ → Role → Fetched
+    fetch_role lost role =
+        cond (eqb (chip_in j role) lost && not (is_none l (number_in r role))) (rebuilt role)
+        (itself y (chip_in j role) (number_in r role))
 
     -- for a store; no chip is lost then
-    abbrev pub feedRole : Role → Feed
-    feedRole role = asFeed (fetchRole noChip role)
+    abbrev pub feed_role : Role → Feed
+    feed_role role = as_feed (fetch_role no_chip role)
 
   -- from the images
-  unfoldable pub fetchIn : Images → ℕ → ℕ → Role → Fetched
-  fetchIn s lost j role =
-      fetchRole (pageAt l s.chips) (slotAt l s.slots) j (recordAt l s.records j) lost role
+  unfoldable pub fetch_in : Images → ℕ → ℕ → Role → Fetched
+  fetch_in s lost j role =
+      fetch_role (page_at l s.chips) (slot_at l s.slots) j (record_at l s.records j) lost role
 
   -- the same for a store
-  abbrev pub feedIn : Images → ℕ → Role → Feed
-  feedIn s j role = feedRole (pageAt l s.chips) (slotAt l s.slots) j (recordAt l s.records j) role
+  abbrev pub feed_in : Images → ℕ → Role → Feed
+  feed_in s j role = feed_role (page_at l s.chips) (slot_at l s.slots) j (record_at l s.records j) role

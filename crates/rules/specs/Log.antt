@@ -2,8 +2,8 @@
 -- price book another.
 use Rattle.std.specs.Prelude.{ℕ, ◌+◌, ◌*◌, ◌/◌, ◌%◌, Bool, true, false, List, []}
 use Rattle.ranges.specs.declared.Found.{Found}
-use Rattle.ranges.specs.Look.{all_below, firstBelow, lastBelow, sumBelow, whenFound}
-use Rattle.bytes.specs.Units.{unit, unitPut}
+use Rattle.ranges.specs.Look.{all_below, first_below, last_below, sum_below, when_found}
+use Rattle.octets.specs.Units.{unit, unit_put}
 use Rattle.layout.specs.Layout.{Layout}
 use Rattle.layout.specs.Images.{Images}
 use Rattle.steps.specs.Steps.{Step}
@@ -13,9 +13,9 @@ use Rattle.rules.specs.declared.Standing.TheVariants.{Weighed, Nothing}
 use Rattle.rules.specs.declared.Origin.{Origin}
 use Rattle.rules.specs.declared.Origin.TheVariants.{Unwritten}
 use Rattle.rules.specs.Read.{fetch}
-use Rattle.rules.specs.Origins.{greatestOrigin}
-use Rattle.rules.specs.Write.{writeSteps}
-use Rattle.rules.specs.Tickets.{ticketBytes, ticketOf, is_empty, ticketSound, isFor, weightOf}
+use Rattle.rules.specs.Origins.{greatest_origin}
+use Rattle.rules.specs.Write.{write_steps}
+use Rattle.rules.specs.Tickets.{ticket_bytes, ticket_of, is_empty, ticket_sound, is_for, weight_of}
 
 -- a ticket that is given carries the one, "any other reading of the log" the other
 abbrev pub carried : Standing → Origin → Origin → Origin
@@ -26,63 +26,63 @@ module _ (l : Layout) where
   open l use {N, W, S}
 
   -- the tickets of a page
-  abbrev pub perPage : ℕ
-  perPage = W / ticketBytes
+  abbrev pub per_page : ℕ
+  per_page = W / ticket_bytes
 
   -- those of all pages
   abbrev pub places : ℕ
-  places = N * S * perPage
+  places = N * S * per_page
 
   -- the page that place t falls in
-  abbrev pub fallsIn : ℕ → ℕ
-  fallsIn t = t / perPage
+  abbrev pub falls_in : ℕ → ℕ
+  falls_in t = t / per_page
 
   module _ (f : ℕ → List ℕ) where
     -- "Tickets fill the pages in order": the bytes at place t
     unfoldable pub bytes_at : ℕ → List ℕ
-    bytes_at t = unit ticketBytes (t % perPage) (f (fallsIn t))
+    bytes_at t = unit ticket_bytes (t % per_page) (f (falls_in t))
 
     -- the ticket there
-    abbrev pub ticketAt : ℕ → Ticket
-    ticketAt t = ticketOf (bytes_at t)
+    abbrev pub ticket_at : ℕ → Ticket
+    ticket_at t = ticket_of (bytes_at t)
 
     -- "the log ends at the first of kind 0"
-    unfoldable pub logEnd : Found
-    logEnd = firstBelow places (λ t. is_empty (ticketAt t))
+    unfoldable pub log_end : Found
+    log_end = first_below places (λ t. is_empty (ticket_at t))
 
     -- the tickets before the end; "a log that fills every page" has no end
-    unfoldable pub logLength : ℕ
-    logLength = whenFound logEnd (λ t. t) places
+    unfoldable pub log_length : ℕ
+    log_length = when_found log_end (λ t. t) places
 
     -- no ticket "found before the log's end" breaks the rules
-    unfoldable pub logSound : Bool
-    logSound = all_below logLength (λ t. ticketSound (ticketAt t))
+    unfoldable pub log_sound : Bool
+    log_sound = all_below log_length (λ t. ticket_sound (ticket_at t))
 
     -- not "a log that fills every page"
-    unfoldable pub logOpen : Bool
-    logOpen = whenFound logEnd (λ t. true) false
+    unfoldable pub log_open : Bool
+    log_open = when_found log_end (λ t. true) false
 
     -- "Of tickets with one lot and bag, the latest in the log stands"
     unfoldable pub latest : ℕ → ℕ → Found
-    latest lot bag = lastBelow logLength (λ t. isFor lot bag (ticketAt t))
+    latest lot bag = last_below log_length (λ t. is_for lot bag (ticket_at t))
 
     -- "asked for lot and bag, the store gives the one standing if it is a weight, else none"
     unfoldable pub standing : ℕ → ℕ → Standing
-    standing lot bag = whenFound (latest lot bag) (λ t. weightOf (ticketAt t)) Nothing
+    standing lot bag = when_found (latest lot bag) (λ t. weight_of (ticket_at t)) Nothing
 
     -- "each page up to and including the log's end"
-    unfoldable pub logPages : ℕ
-    logPages = whenFound logEnd (λ t. fallsIn t + 1) (N * S)
+    unfoldable pub log_pages : ℕ
+    log_pages = when_found log_end (λ t. falls_in t + 1) (N * S)
 
     -- document 02, 2, where o tells how each page was got: "a ticket given carries its page's, any other reading of the log the last in that
     -- order among its pages"
-    unfoldable pub logOrigin : (ℕ → Origin) → ℕ → ℕ → Origin
-    logOrigin o lot bag =
-        carried (standing lot bag) (whenFound (latest lot bag) (λ t. o (fallsIn t)) Unwritten) (greatestOrigin logPages o)
+    unfoldable pub log_origin : (ℕ → Origin) → ℕ → ℕ → Origin
+    log_origin o lot bag =
+        carried (standing lot bag) (when_found (latest lot bag) (λ t. o (falls_in t)) Unwritten) (greatest_origin log_pages o)
 
     -- "Adding one rewrites the page it falls in, other bytes kept": that page with the ticket at place t
-    unfoldable pub withTicket : List ℕ → ℕ → List ℕ
-    withTicket ticket t = unitPut ticketBytes (t % perPage) ticket (f (fallsIn t))
+    unfoldable pub with_ticket : List ℕ → ℕ → List ℕ
+    with_ticket ticket t = unit_put ticket_bytes (t % per_page) ticket (f (falls_in t))
 
   -- what the pages of a store read as
   abbrev pub contents : Images → ℕ → ℕ → List ℕ
@@ -93,10 +93,10 @@ module _ (l : Layout) where
   origins s lost i = (fetch l s lost i).origin
 
   -- "counts the reads of each page up to and including the log's end once"
-  unfoldable pub logReads : Images → ℕ → ℕ
-  logReads s lost = sumBelow (logPages (contents s lost)) (λ i. (fetch l s lost i).reads)
+  unfoldable pub log_reads : Images → ℕ → ℕ
+  log_reads s lost = sum_below (log_pages (contents s lost)) (λ i. (fetch l s lost i).reads)
 
   -- "Adding one rewrites the page it falls in"
-  unfoldable pub addSteps : ℕ → List ℕ → Images → List Step
-  addSteps lost ticket s =
-      whenFound (logEnd (contents s lost)) (λ t. writeSteps l (fallsIn t) (withTicket (contents s lost) ticket t) s) []
+  unfoldable pub add_steps : ℕ → List ℕ → Images → List Step
+  add_steps lost ticket s =
+      when_found (log_end (contents s lost)) (λ t. write_steps l (falls_in t) (with_ticket (contents s lost) ticket t) s) []

@@ -5,25 +5,25 @@ use Rattle.rules.specs.declared.Origin.TheVariants.{Unwritten, Direct, Partial, 
 
 -- "never written, read directly, rebuilt through the partial parity, rebuilt through the full parity": by whether the page was written,
 -- whether its chip is the lost one, and whether it is in the partial parity
-abbrev pub originBy : Bool → Bool → Bool → Origin
-originBy written lost inside = cond written (cond lost (cond inside Partial Full) Direct) Unwritten
+abbrev pub origin_by : Bool → Bool → Bool → Origin
+origin_by written lost inside = cond written (cond lost (cond inside Partial Full) Direct) Unwritten
 
 -- "0, 1, 2 or 3 in that order"
-abbrev pub originNumber : Origin → ℕ
-originNumber Unwritten = 0
-originNumber Direct = 1
-originNumber Partial = 2
-originNumber Full = 3
+abbrev pub origin_number : Origin → ℕ
+origin_number Unwritten = 0
+origin_number Direct = 1
+origin_number Partial = 2
+origin_number Full = 3
 
 -- and back
-abbrev pub originNumbered : ℕ → Origin
-originNumbered n = cond (eqb n 0) Unwritten (cond (eqb n 1) Direct (cond (eqb n 2) Partial Full))
+abbrev pub origin_numbered : ℕ → Origin
+origin_numbered n = cond (eqb n 0) Unwritten (cond (eqb n 1) Direct (cond (eqb n 2) Partial Full))
 
 -- of two, the one of the greater number
 abbrev pub greater : Origin → Origin → Origin
-greater a b = cond (leb (originNumber a) (originNumber b)) b a
+greater a b = cond (leb (origin_number a) (origin_number b)) b a
 
 -- "the last in that order among" f 0, f 1, .. below n
-unfoldable pub greatestOrigin : ℕ → (ℕ → Origin) → Origin
-greatestOrigin zero f = Unwritten
-greatestOrigin (suc n) f = greater (greatestOrigin n f) (f n)
+unfoldable pub greatest_origin : ℕ → (ℕ → Origin) → Origin
+greatest_origin zero f = Unwritten
+greatest_origin (suc n) f = greater (greatest_origin n f) (f n)

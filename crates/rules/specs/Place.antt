@@ -2,27 +2,27 @@
 use Rattle.std.specs.Prelude.{ℕ, Bool, not, cond, ◌&&◌, leb}
 use Rattle.ranges.specs.declared.Found.{Found}
 use Rattle.ranges.specs.declared.Found.TheVariants.{At, Nothing}
-use Rattle.ranges.specs.Look.{countBelow, firstBelow, or_else, whenFound}
-use Rattle.layout.specs.Layout.{Layout, pageIn}
+use Rattle.ranges.specs.Look.{count_below, first_below, or_else, when_found}
+use Rattle.layout.specs.Layout.{Layout, page_in}
 use Rattle.layout.specs.Page.{Page}
-use Rattle.rules.specs.Blocks.{cleanIn, cleanBlock, fullBlock, lowestCleanBlock}
+use Rattle.rules.specs.Blocks.{clean_in, clean_block, full_block, lowest_clean_block}
 
 module _ (l : Layout) where
   open l use {K, B}
 
   -- "a block already begun", with a clean page
-  unfoldable pub openBlock : (ℕ → Page) → ℕ → Bool
-  openBlock x b = not (cleanBlock l x b) && not (fullBlock l x b)
+  unfoldable pub open_block : (ℕ → Page) → ℕ → Bool
+  open_block x b = not (clean_block l x b) && not (full_block l x b)
 
   -- the lowest clean page of block b
-  unfoldable pub lowestCleanPage : (ℕ → Page) → ℕ → Found
-  lowestCleanPage x b = whenFound (firstBelow K (cleanIn l x b)) (λ i. At (pageIn l b i)) Nothing
+  unfoldable pub lowest_clean_page : (ℕ → Page) → ℕ → Found
+  lowest_clean_page x b = when_found (first_below K (clean_in l x b)) (λ i. At (page_in l b i)) Nothing
 
   -- "the lowest clean page, block by block and page by page, in a block already begun;
   -- else page 0 of the lowest clean block if two or more blocks are clean"
   unfoldable pub place_of : (ℕ → Page) → Found
   place_of x =
-      or_else (whenFound (firstBelow B (openBlock x)) (lowestCleanPage x) Nothing)
-      (cond (leb 2 (countBelow B (cleanBlock l x)))
-      (whenFound (lowestCleanBlock l x) (λ b. At (pageIn l b 0)) Nothing)
+      or_else (when_found (first_below B (open_block x)) (lowest_clean_page x) Nothing)
+      (cond (leb 2 (count_below B (clean_block l x)))
+      (when_found (lowest_clean_block l x) (λ b. At (page_in l b 0)) Nothing)
       Nothing)

@@ -1,15 +1,15 @@
 //! Where a chip has room: the place of the next page, the block to collect, the block to copy to.
 
 ghost use Rattle.std.specs.Prelude.{◌≡◌};
-ghost use Rattle.ranges.specs.Look.{foundIn};
+ghost use Rattle.ranges.specs.Look.{found_in};
 ghost use Rattle.layout.specs.Layout.{layout_of};
-ghost use Rattle.layout.specs.Page.{pageAt};
-ghost use Rattle.layout.specs.Record.{recordAt};
-ghost use Rattle.rules.specs.Blocks.{lowestCleanBlock};
+ghost use Rattle.layout.specs.Page.{page_at};
+ghost use Rattle.layout.specs.Record.{record_at};
+ghost use Rattle.rules.specs.Blocks.{lowest_clean_block};
 ghost use Rattle.rules.specs.Place.{place_of};
 ghost use Rattle.names.specs.Stamps.{StampsPass};
 ghost use Rattle.space.specs.Ordered.{Ordered};
-ghost use Rattle.space.specs.Victims.{victimWanted};
+ghost use Rattle.space.specs.Victims.{victim_wanted};
 
 use codec::is_clean;
 use layout::Geometry;
@@ -20,7 +20,7 @@ use spares::{ChipScan, scan_chip};
 // room where its last one is clean.
 pub fn place_on(chips: &[u8], g: Geometry, c: usize) -> Found
     requires { Ordered g chips.now c }
-    ensures { result ≡ place_of (layout_of g) (pageAt (layout_of g) chips.now c) }
+    ensures { result ≡ place_of (layout_of g) (page_at (layout_of g) chips.now c) }
 {
     let blocks = g.b as usize;
     let k = g.k as usize;
@@ -62,7 +62,7 @@ pub fn place_on(chips: &[u8], g: Geometry, c: usize) -> Found
 // The lowest clean block of chip c.
 pub fn clean_block_on(chips: &[u8], g: Geometry, c: usize) -> Found
     requires { Ordered g chips.now c }
-    ensures { result ≡ lowestCleanBlock (layout_of g) (pageAt (layout_of g) chips.now c) }
+    ensures { result ≡ lowest_clean_block (layout_of g) (page_at (layout_of g) chips.now c) }
 {
     let blocks = g.b as usize;
     let k = g.k as usize;
@@ -78,7 +78,7 @@ pub fn clean_block_on(chips: &[u8], g: Geometry, c: usize) -> Found
 
 // The victim that the scan of a whole chip has found, if any.
 pub fn victim_in(s: ChipScan) -> Found
-    ensures { result ≡ foundIn s.victim }
+    ensures { result ≡ found_in s.victim }
 {
     let least = s.victim;
     found_in(least)
@@ -88,7 +88,7 @@ pub fn victim_in(s: ChipScan) -> Found
 // nobody asks for it.
 pub fn victim_on(chips: &[u8], records: &[u8], g: Geometry, c: usize) -> Found
     requires { Ordered g chips.now c × StampsPass g chips.now records.now c }
-    ensures { result ≡ victimWanted (layout_of g) c (pageAt (layout_of g) chips.now c) (recordAt (layout_of g) records.now) }
+    ensures { result ≡ victim_wanted (layout_of g) c (page_at (layout_of g) chips.now c) (record_at (layout_of g) records.now) }
 {
     if let Found::At(_) = place_on(chips, g, c) {
         return Found::Nothing;

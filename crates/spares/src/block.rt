@@ -2,14 +2,14 @@
 //! there.
 
 ghost use Rattle.std.specs.Prelude.{◌≡◌, true, List, ℕ, ◌+◌, ◌*◌, ◌≤◌, length};
-ghost use Rattle.ranges.specs.Look.{countBelow};
+ghost use Rattle.ranges.specs.Look.{count_below};
 ghost use Rattle.layout.specs.Layout.{layout_of, limits, pages};
 ghost use Rattle.layout.specs.Page.{Page};
-ghost use Rattle.layout.specs.Record.{recordAt};
-ghost use Rattle.rules.specs.Blocks.{orderedBlock};
+ghost use Rattle.layout.specs.Record.{record_at};
+ghost use Rattle.rules.specs.Blocks.{ordered_block};
 ghost use Rattle.codec.specs.Fit.{RecordsFit};
 ghost use Rattle.codec.specs.Scan.{StampsOf};
-ghost use Rattle.spares.specs.Scans.{byStampIn, fieldOf, FieldFits, FieldsOf, FieldsFit, hasNumber, fillOf, blockScan};
+ghost use Rattle.spares.specs.Scans.{by_stamp_in, field_of, FieldFits, FieldsOf, FieldsFit, has_number, fill_of, block_scan};
 
 use codec::scan::{LAST, NO_INDEX, OLD, is_clean_tag, number_in, tag_of};
 use codec::{DATA, PARITY};
@@ -39,7 +39,7 @@ struct Fill {
 // where the tag is not that of the stripe's own page there. The width of a stripe is N + 1.
 fn field_of(g: Geometry, width: u16, c: u16, tag: u16, j: u16) -> u16
     requires { (limits (layout_of g) ≡ true) × (width ≡ g.n + 1) × (c ≤ g.n) }
-    ensures { result ≡ fieldOf (layout_of g) c tag j }
+    ensures { result ≡ field_of (layout_of g) c tag j }
 {
     let s = g.s as u16;
     let parity = width - 1 - j % width;
@@ -102,7 +102,7 @@ pub fn fields_of(
 // Whether the record of stripe j has page p in this field, or as the old page beside it; the parity has none beside it.
 fn has_number(records: &[u8], g: Geometry, j: u16, field: u16, p: usize) -> bool
     requires { RecordsFit g records.now × FieldFits (layout_of g) j field }
-    ensures { result ≡ hasNumber (recordAt (layout_of g) records.now j) field p }
+    ensures { result ≡ has_number (record_at (layout_of g) records.now j) field p }
 {
     let i = field as usize;
     if i == NO_INDEX {
@@ -130,7 +130,7 @@ fn count_named(
     requires { RecordsFit g records.now × (first + (o + g.k) ≤ pages (layout_of g)) × (o + g.k ≤ 128) × FieldsFit (layout_of g) (o + g.k) stripes.now fields.now }
     ensures { (x : ℕ → Page) (c b : ℕ) (tags : List ℕ) → c ≤ g.n → first + o ≡ b * g.k → StampsOf x first (o + g.k) tags stripes.now
         → FieldsOf (layout_of g) c (o + g.k) tags stripes.now fields.now
-        → result ≡ countBelow g.k (byStampIn (layout_of g) (recordAt (layout_of g) records.now) x c b) }
+        → result ≡ count_below g.k (by_stamp_in (layout_of g) (record_at (layout_of g) records.now) x c b) }
 {
     let end = o + g.k as usize;
     let mut named: usize = 0;
@@ -148,7 +148,7 @@ fn count_named(
 fn is_ordered(g: Geometry, o: usize, tags: &[u16; 128]) -> bool
     requires { (limits (layout_of g) ≡ true) × (o + g.k ≤ 128) }
     ensures { (x : ℕ → Page) (b first : ℕ) (stripes : List ℕ) → first + o ≡ b * g.k → StampsOf x first (o + g.k) tags.now stripes
-        → result ≡ orderedBlock (layout_of g) x b }
+        → result ≡ ordered_block (layout_of g) x b }
 {
     let last = g.k as usize - 1;
     let mut ordered = true;
@@ -165,7 +165,7 @@ fn is_ordered(g: Geometry, o: usize, tags: &[u16; 128]) -> bool
 fn fill_of(g: Geometry, o: usize, tags: &[u16; 128]) -> Fill
     requires { (limits (layout_of g) ≡ true) × (o + g.k ≤ 128) }
     ensures { (x : ℕ → Page) (b first : ℕ) (stripes : List ℕ) → first + o ≡ b * g.k → StampsOf x first (o + g.k) tags.now stripes
-        → result ≡ fillOf (layout_of g) x b }
+        → result ≡ fill_of (layout_of g) x b }
 {
     let k = g.k as usize;
     let mut clean = true;
@@ -193,7 +193,7 @@ pub fn scan_block(
     requires { RecordsFit g records.now × (first + (o + g.k) ≤ pages (layout_of g)) × (o + g.k ≤ 128) × FieldsFit (layout_of g) (o + g.k) stripes.now fields.now }
     ensures { (x : ℕ → Page) (c b : ℕ) → c ≤ g.n → first + o ≡ b * g.k → StampsOf x first (o + g.k) tags.now stripes.now
         → FieldsOf (layout_of g) c (o + g.k) tags.now stripes.now fields.now
-        → result ≡ blockScan (layout_of g) (recordAt (layout_of g) records.now) x c b }
+        → result ≡ block_scan (layout_of g) (record_at (layout_of g) records.now) x c b }
 {
     let fill = fill_of(g, o, tags);
     // nearly all blocks are, and then no page is out of order

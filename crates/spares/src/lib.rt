@@ -5,15 +5,15 @@ pub mod phase;
 
 ghost use Rattle.std.specs.Prelude.{◌≡◌, true, ℕ, ◌-◌, ◌*◌, ◌≤◌, ◌<◌};
 ghost use Rattle.layout.specs.Layout.{Layout, layout_of, limits};
-ghost use Rattle.layout.specs.Page.{Page, pageAt};
-ghost use Rattle.layout.specs.Record.{Record, recordAt};
-ghost use Rattle.layout.specs.Collection.{collectionAt};
-ghost use Rattle.rules.specs.Sound.{isLost, sparesSound};
+ghost use Rattle.layout.specs.Page.{Page, page_at};
+ghost use Rattle.layout.specs.Record.{Record, record_at};
+ghost use Rattle.layout.specs.Collection.{collection_at};
+ghost use Rattle.rules.specs.Sound.{is_lost, spares_sound};
 ghost use Rattle.codec.specs.Fit.{ChipsFit, RecordsFit};
 ghost use Rattle.codec.specs.Views.{CollectionIs};
 ghost use Rattle.names.specs.Checked.{RecordsPass};
-ghost use Rattle.names.specs.Stamps.{namesKept};
-ghost use Rattle.spares.specs.Scans.{chipScan, chipScans, survey};
+ghost use Rattle.names.specs.Stamps.{names_kept};
+ghost use Rattle.spares.specs.Scans.{chip_scan, chip_scans, survey};
 
 use block::{fields_of, scan_block};
 use codec::CollectionRecord;
@@ -67,8 +67,8 @@ fn with_blocks(
     s: ChipScan,
 ) -> ChipScan
     requires { ChipsFit g chips.now × RecordsFit g records.now × (c ≤ g.n) × (from < end) × (end ≤ g.b) × ((end - from) * g.k ≤ 128)
-        × (s ≡ chipScan (layout_of g) (recordAt (layout_of g) records.now) (pageAt (layout_of g) chips.now c) c from) }
-    ensures { result ≡ chipScan (layout_of g) (recordAt (layout_of g) records.now) (pageAt (layout_of g) chips.now c) c end }
+        × (s ≡ chip_scan (layout_of g) (record_at (layout_of g) records.now) (page_at (layout_of g) chips.now c) c from) }
+    ensures { result ≡ chip_scan (layout_of g) (record_at (layout_of g) records.now) (page_at (layout_of g) chips.now c) c end }
 {
     let k = g.k as usize;
     let first = from * k;
@@ -103,7 +103,7 @@ fn with_blocks(
 
 // No block yet.
 fn no_block() -> ChipScan
-    ensures { (l : Layout) (r : ℕ → Record) (x : ℕ → Page) (c : ℕ) → result ≡ chipScan l r x c 0 }
+    ensures { (l : Layout) (r : ℕ → Record) (x : ℕ → Page) (c : ℕ) → result ≡ chip_scan l r x c 0 }
 {
     let victim = no_least();
     ChipScan {
@@ -117,7 +117,7 @@ fn no_block() -> ChipScan
 // One look at each page's spare of chip c.
 pub fn scan_chip(chips: &[u8], records: &[u8], g: Geometry, c: usize) -> ChipScan
     requires { ChipsFit g chips.now × RecordsFit g records.now × (c ≤ g.n) }
-    ensures { result ≡ chipScan (layout_of g) (recordAt (layout_of g) records.now) (pageAt (layout_of g) chips.now c) c g.b }
+    ensures { result ≡ chip_scan (layout_of g) (record_at (layout_of g) records.now) (page_at (layout_of g) chips.now c) c g.b }
 {
     let blocks = g.b as usize;
     let mut scan = no_block();
@@ -134,7 +134,7 @@ pub fn scan_chip(chips: &[u8], records: &[u8], g: Geometry, c: usize) -> ChipSca
 // block's stripes are mostly those of the same block on other chips, whose records were just looked at.
 fn scan_all(chips: &[u8], records: &[u8], g: Geometry, lost: usize) -> [ChipScan; 7]
     requires { ChipsFit g chips.now × RecordsFit g records.now }
-    ensures { result ≡ chipScans (layout_of g) (recordAt (layout_of g) records.now) (pageAt (layout_of g) chips.now) lost g.b }
+    ensures { result ≡ chip_scans (layout_of g) (record_at (layout_of g) records.now) (page_at (layout_of g) chips.now) lost g.b }
 {
     let blocks = g.b as usize;
     let n = g.n as usize;
@@ -166,10 +166,10 @@ fn spares_pass(
     lost: usize,
     scans: [ChipScan; 7],
 ) -> bool
-    requires { ChipsFit g chips.now × RecordsPass g records.now × CollectionIs co (collectionAt (layout_of g) records.now)
-        × (names ≡ namesKept (layout_of g) (recordAt (layout_of g) records.now) lost)
-        × (scans ≡ chipScans (layout_of g) (recordAt (layout_of g) records.now) (pageAt (layout_of g) chips.now) lost g.b) }
-    ensures { result ≡ sparesSound (layout_of g) (recordAt (layout_of g) records.now) (pageAt (layout_of g) chips.now) (collectionAt (layout_of g) records.now) (isLost lost) }
+    requires { ChipsFit g chips.now × RecordsPass g records.now × CollectionIs co (collection_at (layout_of g) records.now)
+        × (names ≡ names_kept (layout_of g) (record_at (layout_of g) records.now) lost)
+        × (scans ≡ chip_scans (layout_of g) (record_at (layout_of g) records.now) (page_at (layout_of g) chips.now) lost g.b) }
+    ensures { result ≡ spares_sound (layout_of g) (record_at (layout_of g) records.now) (page_at (layout_of g) chips.now) (collection_at (layout_of g) records.now) (is_lost lost) }
 {
     let n = g.n as usize;
     let busy = (co.phase == 1) | (co.phase == 2);
@@ -202,9 +202,9 @@ pub fn scan_spares(
     names: usize,
     lost: usize,
 ) -> Survey
-    requires { ChipsFit g chips.now × RecordsPass g records.now × CollectionIs co (collectionAt (layout_of g) records.now)
-        × (names ≡ namesKept (layout_of g) (recordAt (layout_of g) records.now) lost) }
-    ensures { result ≡ survey (layout_of g) (recordAt (layout_of g) records.now) (pageAt (layout_of g) chips.now) (collectionAt (layout_of g) records.now) lost }
+    requires { ChipsFit g chips.now × RecordsPass g records.now × CollectionIs co (collection_at (layout_of g) records.now)
+        × (names ≡ names_kept (layout_of g) (record_at (layout_of g) records.now) lost) }
+    ensures { result ≡ survey (layout_of g) (record_at (layout_of g) records.now) (page_at (layout_of g) chips.now) (collection_at (layout_of g) records.now) lost }
 {
     let scans = scan_all(chips, records, g, lost);
     let sound = spares_pass(chips, records, g, co, names, lost, scans);

@@ -2,14 +2,14 @@
 
 ghost use Rattle.std.specs.Prelude.{◌≡◌, ◌<◌};
 ghost use Rattle.layout.specs.Layout.{layout_of, pages};
-ghost use Rattle.layout.specs.Page.{pageAt};
-ghost use Rattle.layout.specs.Record.{recordAt};
-ghost use Rattle.layout.specs.Collection.{collectionAt};
-ghost use Rattle.rules.specs.Sound.{phase1Sound, phase2Sound};
+ghost use Rattle.layout.specs.Page.{page_at};
+ghost use Rattle.layout.specs.Record.{record_at};
+ghost use Rattle.layout.specs.Collection.{collection_at};
+ghost use Rattle.rules.specs.Sound.{phase1_sound, phase2_sound};
 ghost use Rattle.codec.specs.Views.{CollectionIs};
 ghost use Rattle.names.specs.Checked.{RecordsPass};
 ghost use Rattle.names.specs.Stamps.{StampsPass};
-ghost use Rattle.spares.specs.Phases.{twinPlace, Twins, phaseSound};
+ghost use Rattle.spares.specs.Phases.{twin_place, Twins, phase_sound};
 
 use codec::{CollectionRecord, spare_at};
 use layout::Geometry;
@@ -19,7 +19,7 @@ use ranges::Found;
 // Phase 1: no record names a page of the destination d.
 fn phase1_passes(chips: &[u8], records: &[u8], g: Geometry, c: usize, d: usize) -> bool
     requires { StampsPass g chips.now records.now c × (d < g.b) }
-    ensures { result ≡ phase1Sound (layout_of g) (recordAt (layout_of g) records.now) c d }
+    ensures { result ≡ phase1_sound (layout_of g) (record_at (layout_of g) records.now) c d }
 {
     let k = g.k as usize;
     let first = d * k;
@@ -35,7 +35,7 @@ fn phase1_passes(chips: &[u8], records: &[u8], g: Geometry, c: usize, d: usize) 
 // The place of the victim v whose unnamed twin page q is, if any.
 fn twin_place(chips: &[u8], records: &[u8], g: Geometry, c: usize, v: usize, q: usize) -> Found
     requires { StampsPass g chips.now records.now c × (v < g.b) × (q < pages (layout_of g)) }
-    ensures { result ≡ twinPlace (layout_of g) (recordAt (layout_of g) records.now) (pageAt (layout_of g) chips.now c) c v q }
+    ensures { result ≡ twin_place (layout_of g) (record_at (layout_of g) records.now) (page_at (layout_of g) chips.now c) c v q }
 {
     let k = g.k as usize;
     let first = v * k;
@@ -60,7 +60,7 @@ fn twin_place(chips: &[u8], records: &[u8], g: Geometry, c: usize, v: usize, q: 
 // so one look at each is enough.
 fn count_twins(chips: &[u8], records: &[u8], g: Geometry, c: usize, v: usize, d: usize) -> [u8; 128]
     requires { StampsPass g chips.now records.now c × (v < g.b) × (d < g.b) }
-    ensures { Twins (layout_of g) (recordAt (layout_of g) records.now) (pageAt (layout_of g) chips.now c) c v d g.k result }
+    ensures { Twins (layout_of g) (record_at (layout_of g) records.now) (page_at (layout_of g) chips.now c) c v d g.k result }
 {
     let k = g.k as usize;
     let first = d * k;
@@ -79,7 +79,7 @@ fn count_twins(chips: &[u8], records: &[u8], g: Geometry, c: usize, v: usize, d:
 // Phase 2: each page named in the victim v has one twin in the destination d.
 fn phase2_passes(chips: &[u8], records: &[u8], g: Geometry, c: usize, v: usize, d: usize) -> bool
     requires { StampsPass g chips.now records.now c × (v < g.b) × (d < g.b) }
-    ensures { result ≡ phase2Sound (layout_of g) (recordAt (layout_of g) records.now) (pageAt (layout_of g) chips.now c) c v d }
+    ensures { result ≡ phase2_sound (layout_of g) (record_at (layout_of g) records.now) (page_at (layout_of g) chips.now c) c v d }
 {
     let k = g.k as usize;
     let first = v * k;
@@ -95,8 +95,8 @@ fn phase2_passes(chips: &[u8], records: &[u8], g: Geometry, c: usize, v: usize, 
 
 // Whether the collection under way, if any, is sound on its chip.
 pub fn phase_passes(chips: &[u8], records: &[u8], g: Geometry, co: CollectionRecord) -> bool
-    requires { StampsPass g chips.now records.now co.chip × RecordsPass g records.now × CollectionIs co (collectionAt (layout_of g) records.now) }
-    ensures { result ≡ phaseSound (layout_of g) (recordAt (layout_of g) records.now) (pageAt (layout_of g) chips.now co.chip) (collectionAt (layout_of g) records.now) }
+    requires { StampsPass g chips.now records.now co.chip × RecordsPass g records.now × CollectionIs co (collection_at (layout_of g) records.now) }
+    ensures { result ≡ phase_sound (layout_of g) (record_at (layout_of g) records.now) (page_at (layout_of g) chips.now co.chip) (collection_at (layout_of g) records.now) }
 {
     if co.phase == 1 {
         return phase1_passes(chips, records, g, co.chip, co.destination);

@@ -9,35 +9,35 @@ use lib.ListN.{length, length-append}
 use lib.Seq.{take-nil, take_all, take-append-le}
 use lib.Dec.{ltb}
 use borrow.Author.Tests.{ltb-true}
-use Rattle.ranges.proofs.Looks.{by_order, by-test}
+use Rattle.ranges.proofs.Looks.{by_order, by_test}
 use Rattle.ranges.proofs.Tests.{or_else}
 use Rattle.layout.specs.Layout.{Layout}
 use Rattle.layout.specs.Images.{Images}
 use Rattle.steps.specs.Store.{Store}
-use Rattle.steps.specs.Steps.{Step, plain, made, programsOf, erasesOf, counted, countedAll, applyAll, stepsBelow}
-use Rattle.steps.specs.Allowance.{after, applied, countingAll, Sane, Ran}
+use Rattle.steps.specs.Steps.{Step, plain, made, programs_of, erases_of, counted, counted_all, apply_all, steps_below}
+use Rattle.steps.specs.Allowance.{after, applied, counting_all, Sane, Ran}
 use Rattle.steps.specs.declared.Counts.{Counts}
 use Rattle.steps.specs.declared.Progress.{Progress}
-use Rattle.steps.proofs.Allowances.{count-append}
-use Rattle.steps.proofs.Lengths.{below-cong}
+use Rattle.steps.proofs.Allowances.{count_append}
+use Rattle.steps.proofs.Lengths.{below_cong}
 
 -- ---- lists below a number
 
 -- the lists from m on follow those below m
-below-add : (m n : ℕ) (f : ℕ → List Step) → stepsBelow (m + n) f ≡ stepsBelow m f ++ stepsBelow n (λ i. f (m + i))
-unfolding stepsBelow
-below-add m zero f = rw (add-zero, append-nil)
-below-add m (suc n) f = rw (add-suc, below-add m n f, append_assoc)
+below_add : (m n : ℕ) (f : ℕ → List Step) → steps_below (m + n) f ≡ steps_below m f ++ steps_below n (λ i. f (m + i))
+unfolding steps_below
+below_add m zero f = rw (add-zero, append-nil)
+below_add m (suc n) f = rw (add-suc, below_add m n f, append_assoc)
 
 -- n lists below each of m are m * n lists below one another
-pub below-below : (m n : ℕ) (f : ℕ → ℕ → List Step) → 0 < n → stepsBelow m (λ c. stepsBelow n (f c)) ≡ stepsBelow (m * n) (λ i. f (i / n) (i % n))
-unfolding stepsBelow
-below-below zero n f some = rw zero-mul
-below-below (suc m) n f some =
+pub below_below : (m n : ℕ) (f : ℕ → ℕ → List Step) → 0 < n → steps_below m (λ c. steps_below n (f c)) ≡ steps_below (m * n) (λ i. f (i / n) (i % n))
+unfolding steps_below
+below_below zero n f some = rw zero-mul
+below_below (suc m) n f some =
     let f' : ℕ → List Step = λ i. f (i / n) (i % n) in
-    rw (suc-mul, below-add (m * n) n f', below-below m n f some)
-    (ap (λ (xs : List Step). stepsBelow (m * n) f' ++ xs)
-    (below-cong n (f m) (λ i. f' (m * n + i)) (λ i low. rw (mul-add-div_right some m i, div-eq_of_lt low, add-zero, mul-add-mod_self_right m n i, mod-eq_of_lt low))))
+    rw (suc-mul, below_add (m * n) n f', below_below m n f some)
+    (ap (λ (xs : List Step). steps_below (m * n) f' ++ xs)
+    (below_cong n (f m) (λ i. f' (m * n + i)) (λ i low. rw (mul-add-div_right some m i, div-eq_of_lt low, add-zero, mul-add-mod_self_right m n i, mod-eq_of_lt low))))
 
 -- ---- numbers
 
@@ -56,40 +56,40 @@ abbrev pub one : (ℕ → Store) → ℕ → List Step
 one x i = plain (x i) ∷ []
 
 module _ (x : ℕ → Store) where
-  length-each : (n : ℕ) → length (stepsBelow n (one x)) ≡ n
-  unfolding stepsBelow
-  length-each zero = refl
-  length-each (suc n) = rw (length-append, length-each n, add-one)
+  length_each : (n : ℕ) → length (steps_below n (one x)) ≡ n
+  unfolding steps_below
+  length_each zero = refl
+  length_each (suc n) = rw (length-append, length_each n, add-one)
 
   -- the first of them
-  made_each : (a n : ℕ) → made a (stepsBelow n (one x)) ≡ stepsBelow (min a n) (one x)
-  unfolding stepsBelow
+  made_each : (a n : ℕ) → made a (steps_below n (one x)) ≡ steps_below (min a n) (one x)
+  unfolding steps_below
   made_each a zero = rw (min-zero, take-nil {A = Step} a)
   made_each a (suc n) = by_order a (suc n)
       (λ h.
       let k : a ≤ n = omega arith in
-      let low : a ≤ length (stepsBelow n (one x)) = rw (length-each n) k in
-      rw (take-append-le a (stepsBelow n (one x)) (one x n) low, made_each a n, min-eq_left k, min-eq_left (le_of_lt h)))
-      (λ h. rw (min-eq_right h) (take_all a (stepsBelow (suc n) (one x)) (rw (length-each (suc n)) h)))
+      let low : a ≤ length (steps_below n (one x)) = rw (length_each n) k in
+      rw (take-append-le a (steps_below n (one x)) (one x n) low, made_each a n, min-eq_left k, min-eq_left (le_of_lt h)))
+      (λ h. rw (min-eq_right h) (take_all a (steps_below (suc n) (one x)) (rw (length_each (suc n)) h)))
 
-  module _ (erases : ℕ) (no-programs : (i : ℕ) → programsOf (x i) ≡ 0) (each-erases : (i : ℕ) → erasesOf (x i) ≡ erases) where
+  module _ (erases : ℕ) (no_programs : (i : ℕ) → programs_of (x i) ≡ 0) (each_erases : (i : ℕ) → erases_of (x i) ≡ erases) where
     counts_each : (n : ℕ) (c : Counts)
-        → countedAll (stepsBelow n (one x)) c
+        → counted_all (steps_below n (one x)) c
         ≡ record { reads = c.reads; programs = c.programs; erases = c.erases + n * erases; stores = c.stores + n }
-    unfolding stepsBelow countedAll counted
+    unfolding steps_below counted_all counted
     counts_each zero c = simp (zero-mul, add-zero)
     counts_each (suc n) c =
         let erased : c.erases + n * erases + erases ≡ c.erases + suc n * erases = rw suc-mul (omega arith) in
         let stored : c.stores + n + 1 ≡ c.stores + suc n = omega arith in
-        rw (count-append (stepsBelow n (one x)) (one x n) c, counts_each n c, no-programs n, each-erases n)
+        rw (count_append (steps_below n (one x)) (one x n) c, counts_each n c, no_programs n, each_erases n)
         λ i. record { reads = add-zero c.reads i; programs = add-zero c.programs i; erases = erased i; stores = stored i }
 
     -- the images are those after the stores that are made
-    pub ran-each : (l : Layout) (p : Progress) (n : ℕ) (s t : Images) → Sane p → erases ≤ 1
-        → t ≡ applyAll l (stepsBelow (min p.left n) (one x)) s → Ran l p (stepsBelow n (one x)) (countingAll p n erases) s t
+    pub ran_each : (l : Layout) (p : Progress) (n : ℕ) (s t : Images) → Sane p → erases ≤ 1
+        → t ≡ apply_all l (steps_below (min p.left n) (one x)) s → Ran l p (steps_below n (one x)) (counting_all p n erases) s t
     unfolding after applied
-    ran-each l p n s t h few e = record {
-      progress = rw (made_each p.left n, counts_each (min p.left n) p.counts, length-each n);
+    ran_each l p n s t h few e = record {
+      progress = rw (made_each p.left n, counts_each (min p.left n) p.counts, length_each n);
       images = rw (made_each p.left n) e;
       sane =
           let m = min p.left n in
@@ -100,7 +100,7 @@ module _ (x : ℕ → Store) where
             programs = omega (arith, h.programs);
             erases = omega (arith, h.erases);
             stores = omega (arith, h.stores);
-            spent = λ c. by-test p.cut
+            spent = λ c. by_test p.cut
                 (λ k. omega (arith, h.spent k))
                 (λ k. omega (arith, ltb-true p.left n (or_else p.cut (ltb p.left n) c k)));
           };

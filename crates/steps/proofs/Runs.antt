@@ -7,20 +7,20 @@ use mathlib.Core.List.{List, [], ◌∷◌, ◌++◌}
 use Rattle.layout.specs.Layout.{Layout}
 use Rattle.layout.specs.Images.{Images}
 use Rattle.steps.specs.Store.{apply}
-use Rattle.steps.specs.Steps.{Step, applyAll, stepsBelow}
+use Rattle.steps.specs.Steps.{Step, apply_all, steps_below}
 
 module _ (l : Layout) where
-  pub apply-append : (xs ys : List Step) (s : Images) → applyAll l (xs ++ ys) s ≡ applyAll l ys (applyAll l xs s)
-  unfolding applyAll
-  apply-append [] ys s = refl
-  apply-append (x ∷ xs) ys s = apply-append xs ys (apply l x.store s)
+  pub apply_append : (xs ys : List Step) (s : Images) → apply_all l (xs ++ ys) s ≡ apply_all l ys (apply_all l xs s)
+  unfolding apply_all
+  apply_append [] ys s = refl
+  apply_append (x ∷ xs) ys s = apply_append xs ys (apply l x.store s)
 
   -- what holds at the start and is carried on by each part of a list holds at its end
-  pub below-carries : (P : ℕ → Images → Type 0) (n : ℕ) (f : ℕ → List Step) (s : Images) → P 0 s
-      → ((i : ℕ) → i < n → (t : Images) → P i t → P (suc i) (applyAll l (f i) t)) → P n (applyAll l (stepsBelow n f) s)
-  unfolding stepsBelow applyAll
-  below-carries P zero f s start next = start
-  below-carries P (suc n) f s start next =
-      rw (apply-append (stepsBelow n f) (f n) s)
-      (next n (le_refl (suc n)) (applyAll l (stepsBelow n f) s)
-      (below-carries P n f s start (λ i h. next i (omega arith))))
+  pub below_carries : (P : ℕ → Images → Type 0) (n : ℕ) (f : ℕ → List Step) (s : Images) → P 0 s
+      → ((i : ℕ) → i < n → (t : Images) → P i t → P (suc i) (apply_all l (f i) t)) → P n (apply_all l (steps_below n f) s)
+  unfolding steps_below apply_all
+  below_carries P zero f s start next = start
+  below_carries P (suc n) f s start next =
+      rw (apply_append (steps_below n f) (f n) s)
+      (next n (le_refl (suc n)) (apply_all l (steps_below n f) s)
+      (below_carries P n f s start (λ i h. next i (omega arith))))

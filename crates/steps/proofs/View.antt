@@ -9,215 +9,215 @@ use mathlib.Core.List.{List, []}
 use lib.ListN.{length, replicate, length-replicate, get_or-replicate}
 use lib.Arith.{digits_lt}
 use borrow.Author.Tests.{lt-ltb, le-ltb, le-leb, lt-leb}
-use Rattle.bytes.specs.Units.{unit, unitPut}
+use Rattle.octets.specs.Units.{unit, unit_put}
 use Rattle.ranges.specs.Update.{at}
-use Rattle.bytes.proofs.Units.{unit-unit, unit-unit-outside, apart, unit-same, unit-other, length-unitPut, length-put-units, unit-fill-in, unit-fill-before}
-use Rattle.bytes.proofs.Units.{unit-fill-after, same_index}
-use Rattle.ranges.proofs.Updates.{at-unique}
-use Rattle.layout.specs.Layout.{Layout, pages, in_block, pageBytes, recordBytes}
-use Rattle.layout.specs.Page.{Page, page_of, bytesOfPage, pageAt, clean}
-use Rattle.layout.specs.Record.{Record, recordOf, bytesOfRecord, recordAt}
-use Rattle.layout.specs.Collection.{Collection, collectionOf, bytesOfCollection, collectionAt}
-use Rattle.layout.specs.Images.{chipsLength, recordsLength, slotsLength, slotAt}
-use Rattle.layout.proofs.Codec.{PageFits, length-page, page-decodes, RecordFits, length-record, record-decodes, CollectionFits, length-collection, collection-decodes}
+use Rattle.octets.proofs.Units.{unit_unit, unit_unit_outside, apart, unit_same, unit_other, length_unit_put, length_put_units, unit_fill_in, unit_fill_before}
+use Rattle.octets.proofs.Units.{unit_fill_after, same_index}
+use Rattle.ranges.proofs.Updates.{at_unique}
+use Rattle.layout.specs.Layout.{Layout, pages, in_block, page_bytes, record_bytes}
+use Rattle.layout.specs.Page.{Page, page_of, bytes_of_page, page_at, clean}
+use Rattle.layout.specs.Record.{Record, record_of, bytes_of_record, record_at}
+use Rattle.layout.specs.Collection.{Collection, collection_of, bytes_of_collection, collection_at}
+use Rattle.layout.specs.Images.{chips_length, records_length, slots_length, slot_at}
+use Rattle.layout.proofs.Codec.{PageFits, length_page, page_decodes, RecordFits, length_record, record_decodes, CollectionFits, length_collection, collection_decodes}
 use Rattle.steps.specs.Store.{programmed, erased, recorded}
 
 module _ (l : Layout) where
   open l use {N, W, K, B, S, M, D}
 
   -- a page of an erased block
-  unfoldable pub erasedPage : Page
-  erasedPage = page_of l (replicate (pageBytes l) 255)
+  unfoldable pub erased_page : Page
+  erased_page = page_of l (replicate (page_bytes l) 255)
 
-  pub erased-clean : clean erasedPage ≡ true
-  unfolding erasedPage page_of
-  erased-clean = rw (get_or-replicate {A = ℕ} (pageBytes l) W 255 0 (omega arith))
+  pub erased_clean : clean erased_page ≡ true
+  unfolding erased_page page_of
+  erased_clean = rw (get_or-replicate {A = ℕ} (page_bytes l) W 255 0 (omega arith))
 
   -- the pages of a chip with block b erased
   unfoldable pub wiped : ℕ → (ℕ → Page) → ℕ → Page
-  wiped b x p = cond (in_block l b p) erasedPage (x p)
+  wiped b x p = cond (in_block l b p) erased_page (x p)
 
   -- the page of a unit of the chip image
-  inside : (chips : List ℕ) (c p : ℕ) → p < pages l → pageAt l chips c p ≡ page_of l (unit (pageBytes l) (c * pages l + p) chips)
-  unfolding pageAt
-  inside chips c p h = ap (page_of l) (unit-unit (pages l) (pageBytes l) c p chips h)
+  inside : (chips : List ℕ) (c p : ℕ) → p < pages l → page_at l chips c p ≡ page_of l (unit (page_bytes l) (c * pages l + p) chips)
+  unfolding page_at
+  inside chips c p h = ap (page_of l) (unit_unit (pages l) (page_bytes l) c p chips h)
 
-  outside : (chips : List ℕ) (c p : ℕ) → pages l ≤ p → pageAt l chips c p ≡ page_of l []
-  unfolding pageAt
-  outside chips c p h = ap (page_of l) (unit-unit-outside (pages l) (pageBytes l) c p chips h)
+  outside : (chips : List ℕ) (c p : ℕ) → pages l ≤ p → page_at l chips c p ≡ page_of l []
+  unfolding page_at
+  outside chips c p h = ap (page_of l) (unit_unit_outside (pages l) (page_bytes l) c p chips h)
 
-  module _ (narrow : D ≤ 4) (chips : List ℕ) (long : length chips ≡ chipsLength l) (c : ℕ) (chip : c < N + 1) where
+  module _ (narrow : D ≤ 4) (chips : List ℕ) (long : length chips ≡ chips_length l) (c : ℕ) (chip : c < N + 1) where
     module _ (p : ℕ) (fits : p < pages l) (x : Page) (f : PageFits l x) where
-      pub length-programmed : length (programmed l c p x chips) ≡ length chips
-      unfolding programmed chipsLength
-      length-programmed =
-          length-unitPut ((N + 1) * pages l) (pageBytes l) (c * pages l + p) (bytesOfPage l x) chips long (digits_lt chip fits) (length-page l narrow x f)
+      pub length_programmed : length (programmed l c p x chips) ≡ length chips
+      unfolding programmed chips_length
+      length_programmed =
+          length_unit_put ((N + 1) * pages l) (page_bytes l) (c * pages l + p) (bytes_of_page l x) chips long (digits_lt chip fits) (length_page l narrow x f)
 
-      program-here : pageAt l (programmed l c p x chips) c p ≡ x
-      unfolding programmed chipsLength
-      program-here =
+      program_here : page_at l (programmed l c p x chips) c p ≡ x
+      unfolding programmed chips_length
+      program_here =
           inside (programmed l c p x chips) c p fits
-          ∙ ap (page_of l) (unit-same ((N + 1) * pages l) (pageBytes l) (c * pages l + p) (bytesOfPage l x) chips long (digits_lt chip fits) (length-page l narrow x f))
-          ∙ page-decodes l narrow x f
+          ∙ ap (page_of l) (unit_same ((N + 1) * pages l) (page_bytes l) (c * pages l + p) (bytes_of_page l x) chips long (digits_lt chip fits) (length_page l narrow x f))
+          ∙ page_decodes l narrow x f
 
-      program-within : (c' p' : ℕ) → p' < pages l → (c' ≡ c → p' ≢ p) → pageAt l (programmed l c p x chips) c' p' ≡ pageAt l chips c' p'
-      unfolding programmed chipsLength
-      program-within c' p' h d =
+      program_within : (c' p' : ℕ) → p' < pages l → (c' ≡ c → p' ≢ p) → page_at l (programmed l c p x chips) c' p' ≡ page_at l chips c' p'
+      unfolding programmed chips_length
+      program_within c' p' h d =
           let other : c' * pages l + p' ≢ c * pages l + p =
           λ e. let same = same_index (pages l) c' p' c p h fits e in d same.0 same.1 in
           rw (inside (programmed l c p x chips) c' p' h, inside chips c' p' h)
-          (ap (page_of l) (unit-other ((N + 1) * pages l) (pageBytes l) (c * pages l + p) (c' * pages l + p') (bytesOfPage l x) chips long (digits_lt chip fits) (length-page l narrow x f) other))
+          (ap (page_of l) (unit_other ((N + 1) * pages l) (page_bytes l) (c * pages l + p) (c' * pages l + p') (bytes_of_page l x) chips long (digits_lt chip fits) (length_page l narrow x f) other))
 
-      pub program-elsewhere : (c' p' : ℕ) → (c' ≡ c → p' ≢ p) → pageAt l (programmed l c p x chips) c' p' ≡ pageAt l chips c' p'
-      program-elsewhere c' p' d = elim (dec_lt p' (pages l)) [
-        | yes h ↦ program-within c' p' h d
+      pub program_elsewhere : (c' p' : ℕ) → (c' ≡ c → p' ≢ p) → page_at l (programmed l c p x chips) c' p' ≡ page_at l chips c' p'
+      program_elsewhere c' p' d = elim (dec_lt p' (pages l)) [
+        | yes h ↦ program_within c' p' h d
         | no h ↦ outside (programmed l c p x chips) c' p' (omega arith) ∙ sym (outside chips c' p' (omega arith))
       ]
 
       -- a program: that page of that chip
-      pub page-programmed : pageAt l (programmed l c p x chips) ≡ at c (at p x (pageAt l chips c)) (pageAt l chips)
-      page-programmed =
-          at-unique c (at p x (pageAt l chips c)) (pageAt l chips) (pageAt l (programmed l c p x chips))
-          (at-unique p x (pageAt l chips c) (pageAt l (programmed l c p x chips) c) program-here (λ p' d. program-elsewhere c p' (λ e. d)))
-          (λ c' d. fun_ext λ p'. program-elsewhere c' p' (λ e. absurd (d e)))
+      pub page_programmed : page_at l (programmed l c p x chips) ≡ at c (at p x (page_at l chips c)) (page_at l chips)
+      page_programmed =
+          at_unique c (at p x (page_at l chips c)) (page_at l chips) (page_at l (programmed l c p x chips))
+          (at_unique p x (page_at l chips c) (page_at l (programmed l c p x chips) c) program_here (λ p' d. program_elsewhere c p' (λ e. d)))
+          (λ c' d. fun_ext λ p'. program_elsewhere c' p' (λ e. absurd (d e)))
 
     module _ (b : ℕ) (block : b < B) where
       -- the first unit of the block
       start : ℕ
       start = c * pages l + b * K
 
-      block-ends : b * K + K ≤ pages l
-      block-ends = apart K b B block
+      block_ends : b * K + K ≤ pages l
+      block_ends = apart K b B block
 
       fits_in : start + K ≤ (N + 1) * pages l
       unfolding start
-      fits_in = omega (arith, block-ends, apart (pages l) c (N + 1) chip)
+      fits_in = omega (arith, block_ends, apart (pages l) c (N + 1) chip)
 
-      erase-within : (p : ℕ) → b * K ≤ p → p < b * K + K → pageAt l (erased l c b chips) c p ≡ erasedPage
-      unfolding erased chipsLength start erasedPage
-      erase-within p low high =
-          inside (erased l c b chips) c p (omega (arith, block-ends))
-          ∙ ap (page_of l) (unit-fill-in ((N + 1) * pages l) (pageBytes l) start K (c * pages l + p) 255 chips long fits_in (omega arith) (omega arith))
+      erase_within : (p : ℕ) → b * K ≤ p → p < b * K + K → page_at l (erased l c b chips) c p ≡ erased_page
+      unfolding erased chips_length start erased_page
+      erase_within p low high =
+          inside (erased l c b chips) c p (omega (arith, block_ends))
+          ∙ ap (page_of l) (unit_fill_in ((N + 1) * pages l) (page_bytes l) start K (c * pages l + p) 255 chips long fits_in (omega arith) (omega arith))
 
-      pub length-erased : length (erased l c b chips) ≡ length chips
-      unfolding erased chipsLength start
-      length-erased =
-          length-put-units ((N + 1) * pages l) (pageBytes l) start K (replicate (K * pageBytes l) 255) chips long fits_in (length-replicate (K * pageBytes l) 255)
+      pub length_erased : length (erased l c b chips) ≡ length chips
+      unfolding erased chips_length start
+      length_erased =
+          length_put_units ((N + 1) * pages l) (page_bytes l) start K (replicate (K * page_bytes l) 255) chips long fits_in (length-replicate (K * page_bytes l) 255)
 
-      erase-before : (c' p : ℕ) → p < pages l → c' * pages l + p < start → pageAt l (erased l c b chips) c' p ≡ pageAt l chips c' p
-      unfolding erased chipsLength start
-      erase-before c' p h low =
+      erase_before : (c' p : ℕ) → p < pages l → c' * pages l + p < start → page_at l (erased l c b chips) c' p ≡ page_at l chips c' p
+      unfolding erased chips_length start
+      erase_before c' p h low =
           rw (inside (erased l c b chips) c' p h, inside chips c' p h)
-          (ap (page_of l) (unit-fill-before ((N + 1) * pages l) (pageBytes l) start K (c' * pages l + p) 255 chips long fits_in low))
+          (ap (page_of l) (unit_fill_before ((N + 1) * pages l) (page_bytes l) start K (c' * pages l + p) 255 chips long fits_in low))
 
-      erase-after : (c' p : ℕ) → p < pages l → start + K ≤ c' * pages l + p → pageAt l (erased l c b chips) c' p ≡ pageAt l chips c' p
-      unfolding erased chipsLength start
-      erase-after c' p h high =
+      erase_after : (c' p : ℕ) → p < pages l → start + K ≤ c' * pages l + p → page_at l (erased l c b chips) c' p ≡ page_at l chips c' p
+      unfolding erased chips_length start
+      erase_after c' p h high =
           rw (inside (erased l c b chips) c' p h, inside chips c' p h)
-          (ap (page_of l) (unit-fill-after ((N + 1) * pages l) (pageBytes l) start K (c' * pages l + p) 255 chips long fits_in high))
+          (ap (page_of l) (unit_fill_after ((N + 1) * pages l) (page_bytes l) start K (c' * pages l + p) 255 chips long fits_in high))
 
-      erase-outside : (c' p : ℕ) → pages l ≤ p → pageAt l (erased l c b chips) c' p ≡ pageAt l chips c' p
-      erase-outside c' p h = outside (erased l c b chips) c' p h ∙ sym (outside chips c' p h)
+      erase_outside : (c' p : ℕ) → pages l ≤ p → page_at l (erased l c b chips) c' p ≡ page_at l chips c' p
+      erase_outside c' p h = outside (erased l c b chips) c' p h ∙ sym (outside chips c' p h)
 
-      erase_other : (c' : ℕ) → c' ≢ c → (p : ℕ) → pageAt l (erased l c b chips) c' p ≡ pageAt l chips c' p
+      erase_other : (c' : ℕ) → c' ≢ c → (p : ℕ) → page_at l (erased l c b chips) c' p ≡ page_at l chips c' p
       unfolding start
       erase_other c' d p = elim (dec_lt p (pages l)) [
         | yes h ↦ elim (dec_lt c' c) [
-          | yes low ↦ erase-before c' p h (omega (arith, apart (pages l) c' c low))
-          | no high ↦ erase-after c' p h (omega (arith, block-ends, apart (pages l) c c' (omega (arith, d))))
+          | yes low ↦ erase_before c' p h (omega (arith, apart (pages l) c' c low))
+          | no high ↦ erase_after c' p h (omega (arith, block_ends, apart (pages l) c c' (omega (arith, d))))
         ]
-        | no h ↦ erase-outside c' p (omega arith)
+        | no h ↦ erase_outside c' p (omega arith)
       ]
 
-      erase_same : (p : ℕ) → pageAt l (erased l c b chips) c p ≡ wiped b (pageAt l chips c) p
+      erase_same : (p : ℕ) → page_at l (erased l c b chips) c p ≡ wiped b (page_at l chips c) p
       unfolding start wiped
       erase_same p = elim (dec_lt p (b * K)) [
         | yes low ↦
-            rw (lt-leb (b * K) p low) (erase-before c p (omega (arith, block-ends)) (omega arith))
+            rw (lt-leb (b * K) p low) (erase_before c p (omega (arith, block_ends)) (omega arith))
         | no h ↦ elim (dec_lt p (b * K + K)) [
-          | yes high ↦ rw (le-leb (b * K) p (omega arith), lt-ltb p (b * K + K) high) (erase-within p (omega arith) high)
+          | yes high ↦ rw (le-leb (b * K) p (omega arith), lt-ltb p (b * K + K) high) (erase_within p (omega arith) high)
           | no high ↦
               rw (le-leb (b * K) p (omega arith), le-ltb p (b * K + K) (omega arith))
               (elim (dec_lt p (pages l)) [
-                | yes i ↦ erase-after c p i (omega arith)
-                | no i ↦ erase-outside c p (omega arith)
+                | yes i ↦ erase_after c p i (omega arith)
+                | no i ↦ erase_outside c p (omega arith)
               ])
         ]
       ]
 
       -- an erase: the pages of that block of that chip
-      pub page-erased : pageAt l (erased l c b chips) ≡ at c (wiped b (pageAt l chips c)) (pageAt l chips)
-      page-erased =
-          at-unique c (wiped b (pageAt l chips c)) (pageAt l chips) (pageAt l (erased l c b chips)) (fun_ext erase_same) (λ c' d. fun_ext (erase_other c' d))
+      pub page_erased : page_at l (erased l c b chips) ≡ at c (wiped b (page_at l chips c)) (page_at l chips)
+      page_erased =
+          at_unique c (wiped b (page_at l chips c)) (page_at l chips) (page_at l (erased l c b chips)) (fun_ext erase_same) (λ c' d. fun_ext (erase_other c' d))
 
-  module _ (some : 1 ≤ D) (records : List ℕ) (long : length records ≡ recordsLength l) where
+  module _ (some : 1 ≤ D) (records : List ℕ) (long : length records ≡ records_length l) where
     -- the record of a unit of the record image
-    record-inside : (xs : List ℕ) (j : ℕ) → j < S → recordAt l xs j ≡ recordOf l (unit (recordBytes l) j xs)
-    unfolding recordAt
-    record-inside xs j h = rw (lt-ltb j S h)
+    record_inside : (xs : List ℕ) (j : ℕ) → j < S → record_at l xs j ≡ record_of l (unit (record_bytes l) j xs)
+    unfolding record_at
+    record_inside xs j h = rw (lt-ltb j S h)
 
-    record-outside : (xs : List ℕ) (j : ℕ) → S ≤ j → recordAt l xs j ≡ recordOf l []
-    unfolding recordAt
-    record-outside xs j h = rw (le-ltb j S h)
+    record_outside : (xs : List ℕ) (j : ℕ) → S ≤ j → record_at l xs j ≡ record_of l []
+    unfolding record_at
+    record_outside xs j h = rw (le-ltb j S h)
 
-    module _ (j : ℕ) (place : j < S + 1) (xs : List ℕ) (whole : length xs ≡ recordBytes l) where
-      pub length-recorded : length (recorded l j xs records) ≡ length records
-      unfolding recorded recordsLength
-      length-recorded = length-unitPut (S + 1) (recordBytes l) j xs records long place whole
+    module _ (j : ℕ) (place : j < S + 1) (xs : List ℕ) (whole : length xs ≡ record_bytes l) where
+      pub length_recorded : length (recorded l j xs records) ≡ length records
+      unfolding recorded records_length
+      length_recorded = length_unit_put (S + 1) (record_bytes l) j xs records long place whole
 
-      recorded-other : (i : ℕ) → i ≢ j → unit (recordBytes l) i (recorded l j xs records) ≡ unit (recordBytes l) i records
-      unfolding recorded recordsLength
-      recorded-other i d = unit-other (S + 1) (recordBytes l) j i xs records long place whole d
+      recorded_other : (i : ℕ) → i ≢ j → unit (record_bytes l) i (recorded l j xs records) ≡ unit (record_bytes l) i records
+      unfolding recorded records_length
+      recorded_other i d = unit_other (S + 1) (record_bytes l) j i xs records long place whole d
 
-      recorded-same : unit (recordBytes l) j (recorded l j xs records) ≡ xs
-      unfolding recorded recordsLength
-      recorded-same = unit-same (S + 1) (recordBytes l) j xs records long place whole
+      recorded_same : unit (record_bytes l) j (recorded l j xs records) ≡ xs
+      unfolding recorded records_length
+      recorded_same = unit_same (S + 1) (record_bytes l) j xs records long place whole
 
-      record-other : (i : ℕ) → i ≢ j → recordAt l (recorded l j xs records) i ≡ recordAt l records i
-      record-other i d = elim (dec_lt i S) [
-        | yes h ↦ rw (record-inside (recorded l j xs records) i h, record-inside records i h) (ap (recordOf l) (recorded-other i d))
-        | no h ↦ record-outside (recorded l j xs records) i (omega arith) ∙ sym (record-outside records i (omega arith))
+      record_other : (i : ℕ) → i ≢ j → record_at l (recorded l j xs records) i ≡ record_at l records i
+      record_other i d = elim (dec_lt i S) [
+        | yes h ↦ rw (record_inside (recorded l j xs records) i h, record_inside records i h) (ap (record_of l) (recorded_other i d))
+        | no h ↦ record_outside (recorded l j xs records) i (omega arith) ∙ sym (record_outside records i (omega arith))
       ]
 
     -- a record store: that record; the collection record stays
     module _ (j : ℕ) (stripe : j < S) (r : Record) (f : RecordFits l r) where
-      pub record-stored : recordAt l (recorded l j (bytesOfRecord l r) records) ≡ at j r (recordAt l records)
-      record-stored =
-          at-unique j r (recordAt l records) (recordAt l (recorded l j (bytesOfRecord l r) records))
-          (record-inside (recorded l j (bytesOfRecord l r) records) j stripe
-          ∙ ap (recordOf l) (recorded-same j (omega arith) (bytesOfRecord l r) (length-record l some r))
-          ∙ record-decodes l some r f)
-          (record-other j (omega arith) (bytesOfRecord l r) (length-record l some r))
+      pub record_stored : record_at l (recorded l j (bytes_of_record l r) records) ≡ at j r (record_at l records)
+      record_stored =
+          at_unique j r (record_at l records) (record_at l (recorded l j (bytes_of_record l r) records))
+          (record_inside (recorded l j (bytes_of_record l r) records) j stripe
+          ∙ ap (record_of l) (recorded_same j (omega arith) (bytes_of_record l r) (length_record l some r))
+          ∙ record_decodes l some r f)
+          (record_other j (omega arith) (bytes_of_record l r) (length_record l some r))
 
-      pub collection-stays : collectionAt l (recorded l j (bytesOfRecord l r) records) ≡ collectionAt l records
-      unfolding collectionAt
-      collection-stays =
-          ap (collectionOf l) (recorded-other j (omega arith) (bytesOfRecord l r) (length-record l some r) S (omega arith))
+      pub collection_stays : collection_at l (recorded l j (bytes_of_record l r) records) ≡ collection_at l records
+      unfolding collection_at
+      collection_stays =
+          ap (collection_of l) (recorded_other j (omega arith) (bytes_of_record l r) (length_record l some r) S (omega arith))
 
     -- a store of the collection record: that; the records stay
     module _ (co : Collection) (f : CollectionFits l co) where
-      pub collection-stored : collectionAt l (recorded l S (bytesOfCollection l co) records) ≡ co
-      unfolding collectionAt
-      collection-stored =
-          ap (collectionOf l) (recorded-same S (omega arith) (bytesOfCollection l co) (length-collection l some co))
-          ∙ collection-decodes l some co f
+      pub collection_stored : collection_at l (recorded l S (bytes_of_collection l co) records) ≡ co
+      unfolding collection_at
+      collection_stored =
+          ap (collection_of l) (recorded_same S (omega arith) (bytes_of_collection l co) (length_collection l some co))
+          ∙ collection_decodes l some co f
 
-      records-stay-at : (i : ℕ) → recordAt l (recorded l S (bytesOfCollection l co) records) i ≡ recordAt l records i
-      records-stay-at i = elim (dec_lt i S) [
-        | yes h ↦ record-other S (omega arith) (bytesOfCollection l co) (length-collection l some co) i (omega arith)
-        | no h ↦ record-outside (recorded l S (bytesOfCollection l co) records) i (omega arith) ∙ sym (record-outside records i (omega arith))
+      records_stay_at : (i : ℕ) → record_at l (recorded l S (bytes_of_collection l co) records) i ≡ record_at l records i
+      records_stay_at i = elim (dec_lt i S) [
+        | yes h ↦ record_other S (omega arith) (bytes_of_collection l co) (length_collection l some co) i (omega arith)
+        | no h ↦ record_outside (recorded l S (bytes_of_collection l co) records) i (omega arith) ∙ sym (record_outside records i (omega arith))
       ]
 
-      pub records-stay : recordAt l (recorded l S (bytesOfCollection l co) records) ≡ recordAt l records
-      records-stay = fun_ext records-stay-at
+      pub records_stay : record_at l (recorded l S (bytes_of_collection l co) records) ≡ record_at l records
+      records_stay = fun_ext records_stay_at
 
   -- a slot store: that slot
-  module _ (slots : List ℕ) (long : length slots ≡ slotsLength l) (i : ℕ) (slot : i < M + 1) (xs : List ℕ) (whole : length xs ≡ W) where
-    pub length-slotted : length (unitPut W i xs slots) ≡ length slots
-    unfolding slotsLength
-    length-slotted = length-unitPut (M + 1) W i xs slots long slot whole
+  module _ (slots : List ℕ) (long : length slots ≡ slots_length l) (i : ℕ) (slot : i < M + 1) (xs : List ℕ) (whole : length xs ≡ W) where
+    pub length_slotted : length (unit_put W i xs slots) ≡ length slots
+    unfolding slots_length
+    length_slotted = length_unit_put (M + 1) W i xs slots long slot whole
 
-    pub slot-stored : slotAt l (unitPut W i xs slots) ≡ at i xs (slotAt l slots)
-    unfolding slotAt slotsLength
-    slot-stored =
-        at-unique i xs (slotAt l slots) (slotAt l (unitPut W i xs slots)) (unit-same (M + 1) W i xs slots long slot whole) (λ k d. unit-other (M + 1) W i k xs slots long slot whole d)
+    pub slot_stored : slot_at l (unit_put W i xs slots) ≡ at i xs (slot_at l slots)
+    unfolding slot_at slots_length
+    slot_stored =
+        at_unique i xs (slot_at l slots) (slot_at l (unit_put W i xs slots)) (unit_same (M + 1) W i xs slots long slot whole) (λ k d. unit_other (M + 1) W i k xs slots long slot whole d)

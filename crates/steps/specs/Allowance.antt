@@ -2,7 +2,7 @@
 use Rattle.std.specs.Prelude.{ℕ, ◌+◌, ◌-◌, ◌*◌, ◌^◌, ◌<◌, min, ◌≡◌, true, false, ◌||◌, List, length, ltb}
 use Rattle.layout.specs.Layout.{Layout}
 use Rattle.layout.specs.Images.{Images}
-use Rattle.steps.specs.Steps.{Step, made, isCut, countedAll, applyAll}
+use Rattle.steps.specs.Steps.{Step, made, is_cut, counted_all, apply_all}
 use Rattle.steps.specs.declared.Counts.{Counts}
 use Rattle.steps.specs.declared.Progress.{Progress}
 
@@ -14,18 +14,18 @@ started before allowance = record { counts = before; left = allowance; cut = fal
 unfoldable pub after : Progress → List Step → Progress
 after p xs =
     record {
-      counts = countedAll (made p.left xs) p.counts;
+      counts = counted_all (made p.left xs) p.counts;
       left = p.left - length xs;
-      cut = p.cut || isCut p.left xs;
+      cut = p.cut || is_cut p.left xs;
     }
 
 -- and the images then
 unfoldable pub applied : Layout → Progress → List Step → Images → Images
-applied l p xs s = applyAll l (made p.left xs) s
+applied l p xs s = apply_all l (made p.left xs) s
 
 -- after n stores alike that are due, of so many erases each and no reads, as far as the allowance goes
-abbrev pub countingAll : Progress → ℕ → ℕ → Progress
-countingAll p n erases =
+abbrev pub counting_all : Progress → ℕ → ℕ → Progress
+counting_all p n erases =
     record {
       counts =
           record {
@@ -39,12 +39,12 @@ countingAll p n erases =
     }
 
 -- the pages read for one store at most: parity, six members, and one to spare
-abbrev pub mostReads : ℕ
-mostReads = 8
+abbrev pub most_reads : ℕ
+most_reads = 8
 
 -- No counter overflows a word of 64 bits: a store takes one of what is left, and counts at most so many reads. What is cut has nothing left.
 pub record Sane (p : Progress) : Type 0 where
-  pub reads : p.counts.reads + mostReads * p.left < 2 ^ 63
+  pub reads : p.counts.reads + most_reads * p.left < 2 ^ 63
   pub programs : p.counts.programs + p.left < 2 ^ 63
   pub erases : p.counts.erases + p.left < 2 ^ 63
   pub stores : p.counts.stores + p.left < 2 ^ 63

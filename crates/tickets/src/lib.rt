@@ -2,18 +2,18 @@
 
 ghost use Rattle.std.specs.Prelude.{◌≡◌, true, ◌&&◌, [], ◌∷◌, ℕ, ◌<◌, eqb, length};
 ghost use Rattle.layout.specs.Layout.{layout_of};
-ghost use Rattle.layout.specs.Record.{recordAt};
+ghost use Rattle.layout.specs.Record.{record_at};
 ghost use Rattle.steps.specs.Allowance.{images, Sane, Ran};
 ghost use Rattle.rules.specs.declared.Refusal.TheVariants.{Data, Tickets};
-ghost use Rattle.rules.specs.Tickets.{ticketBytes, ticketOf, ticketSound};
-ghost use Rattle.rules.specs.Log.{places, fallsIn, withTicket, contents};
-ghost use Rattle.rules.specs.Sound.{recordSound};
-ghost use Rattle.rules.specs.Write.{writeSteps};
-ghost use Rattle.rules.specs.Refusals.{checked, chipSetRow};
-ghost use Rattle.rules.specs.Calls.{Outcome, addCall, findCall};
+ghost use Rattle.rules.specs.Tickets.{ticket_bytes, ticket_of, ticket_sound};
+ghost use Rattle.rules.specs.Log.{places, falls_in, with_ticket, contents};
+ghost use Rattle.rules.specs.Sound.{record_sound};
+ghost use Rattle.rules.specs.Write.{write_steps};
+ghost use Rattle.rules.specs.Refusals.{checked, chip_set_row};
+ghost use Rattle.rules.specs.Calls.{Outcome, add_call, find_call};
 ghost use Rattle.codec.specs.Fit.{SlotsFit};
 ghost use Rattle.names.specs.Checked.{Settled};
-ghost use Rattle.records.specs.Slots.{slotScan};
+ghost use Rattle.records.specs.Slots.{slot_scan};
 ghost use Rattle.space.specs.Victims.{Victims};
 ghost use Rattle.looks.specs.Looks.{below};
 
@@ -21,18 +21,18 @@ use answers::answer;
 use device::start_after;
 use fetch::fetch_member;
 use layout::{Geometry, NO_CHIP};
-use log::{TICKET, is_sound, put_ticket, ticket_in, walk_log};
 use looks::{also, images_look, settled_look};
 use ranges::Found;
 use records::SlotScan;
 use rules::{Answer, Check, Finding, Refusal};
 use spares::ChipScan;
 use steps::{Counts, Progress};
+use ticket_log::{TICKET, is_sound, put_ticket, ticket_in, walk_log};
 use write::write_member;
 
 // Whether these bytes are a ticket that keeps its rules.
 fn is_ticket(ticket: &[u8]) -> bool
-    ensures { result ≡ eqb (length ticket.now) ticketBytes && ticketSound (ticketOf ticket.now) }
+    ensures { result ≡ eqb (length ticket.now) ticket_bytes && ticket_sound (ticket_of ticket.now) }
 {
     if ticket.len() != TICKET {
         return false;
@@ -42,8 +42,8 @@ fn is_ticket(ticket: &[u8]) -> bool
 
 // Rows 8, 9 and 11 of an addition as far as they are about what is given, below the others.
 fn given_check(first: Check, ticket: &[u8], lost: u64) -> Check
-    ensures { result ≡ below (below first (checked ((eqb (length ticket.now) ticketBytes, Data) ∷ chipSetRow lost ∷ [])))
-        (checked ((ticketSound (ticketOf ticket.now), Tickets) ∷ [])) }
+    ensures { result ≡ below (below first (checked ((eqb (length ticket.now) ticket_bytes, Data) ∷ chip_set_row lost ∷ [])))
+        (checked ((ticket_sound (ticket_of ticket.now), Tickets) ∷ [])) }
 {
     let fits = also(first, ticket.len() == TICKET, Refusal::Data);
     let free = also(fits, lost == NO_CHIP as u64, Refusal::ChipSet);
@@ -65,12 +65,12 @@ fn append(
     p: Progress,
 ) -> Progress
     requires { Settled g chips.old records.old × SlotsFit g slots.old × (length page.old ≡ g.w) × (t < places (layout_of g))
-        × (length ticket.now ≡ ticketBytes) × Sane p
-        × Victims g chips.old records.old scans × (seen ≡ slotScan (layout_of g) (recordAt (layout_of g) records.old))
-        × ((j : ℕ) → j < g.s → recordSound (layout_of g) (recordAt (layout_of g) records.old j) ≡ true) }
+        × (length ticket.now ≡ ticket_bytes) × Sane p
+        × Victims g chips.old records.old scans × (seen ≡ slot_scan (layout_of g) (record_at (layout_of g) records.old))
+        × ((j : ℕ) → j < g.s → record_sound (layout_of g) (record_at (layout_of g) records.old j) ≡ true) }
     ensures { Ran (layout_of g) p
-        (writeSteps (layout_of g) (fallsIn (layout_of g) t)
-        (withTicket (layout_of g) (contents (layout_of g) (images chips.old records.old slots.old) lost) ticket.now t)
+        (write_steps (layout_of g) (falls_in (layout_of g) t)
+        (with_ticket (layout_of g) (contents (layout_of g) (images chips.old records.old slots.old) lost) ticket.now t)
         (images chips.old records.old slots.old))
         result (images chips.old records.old slots.old) (images chips.new records.new slots.new) }
 {
@@ -99,7 +99,7 @@ pub fn add(
 ) -> Answer
     ensures { ◌≡◌ {A = Outcome}
         (record { answer = result; images = images chips.new records.new slots.new })
-        (addCall (layout_of g) (images chips.old records.old slots.old) lost ticket.now allowance) }
+        (add_call (layout_of g) (images chips.old records.old slots.old) lost ticket.now allowance) }
 {
     let chip = lost as usize;
     let look = settled_look(g, chips, records, slots, chip);
@@ -148,7 +148,7 @@ pub fn find(
     lot: u32,
     bag: u16,
 ) -> Finding
-    ensures { result ≡ findCall (layout_of g) (images chips.now records.now slots.now) lost lot bag }
+    ensures { result ≡ find_call (layout_of g) (images chips.now records.now slots.now) lost lot bag }
 {
     let chip = lost as usize;
     let look = images_look(g, chips, records, slots, chip);

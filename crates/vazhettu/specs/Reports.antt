@@ -4,19 +4,19 @@ use Rattle.std.specs.Prelude.{List, ℕ}
 use Rattle.rules.specs.declared.Answer.{Answer}
 use Rattle.rules.specs.declared.Reading.{Reading}
 use Rattle.rules.specs.declared.Finding.{Finding}
-use Rattle.rules.specs.Calls.{Outcome, ReadOutcome, statusOf, countsOf, readStatusOf, readCountsOf, readOriginOf, findStatusOf, findCountsOf, findStandingOf, findOriginOf}
+use Rattle.rules.specs.Calls.{Outcome, ReadOutcome, status_of, counts_of, read_status_of, read_counts_of, read_origin_of, find_status_of, find_counts_of, find_standing_of, find_origin_of}
 use Rattle.answers.specs.declared.Report.{Report}
 use Rattle.answers.specs.declared.ReadReport.{ReadReport}
 use Rattle.answers.specs.declared.FindReport.{FindReport}
-use Rattle.answers.specs.Reports.{reportOf, originReportOf, standingReportOf}
+use Rattle.answers.specs.Reports.{report_of, origin_report_of, standing_report_of}
 
 -- of a call that stores
 abbrev pub reported : Answer → Report
-reported a = reportOf (statusOf a) (countsOf a)
+reported a = report_of (status_of a) (counts_of a)
 
 -- of a read
-abbrev pub readReported : Reading → ReadReport
-readReported a = originReportOf (readStatusOf a) (readCountsOf a) (readOriginOf a)
+abbrev pub read_reported : Reading → ReadReport
+read_reported a = origin_report_of (read_status_of a) (read_counts_of a) (read_origin_of a)
 
 -- the report of a call, and every byte of the images after it
 pub record Reported : Type 0 where
@@ -24,8 +24,8 @@ pub record Reported : Type 0 where
   pub images : Images
 
 -- of an outcome
-abbrev pub reportedOf : Outcome → Reported
-reportedOf o = record { report = reported o.answer; images = o.images }
+abbrev pub reported_of : Outcome → Reported
+reported_of o = record { report = reported o.answer; images = o.images }
 
 -- the report of a read, and its buffer
 pub record ReadReported : Type 0 where
@@ -33,9 +33,9 @@ pub record ReadReported : Type 0 where
   pub buffer : List ℕ
 
 -- of an outcome
-abbrev pub readReportedOf : ReadOutcome → ReadReported
-readReportedOf o = record { report = readReported o.answer; buffer = o.buffer }
+abbrev pub read_reported_of : ReadOutcome → ReadReported
+read_reported_of o = record { report = read_reported o.answer; buffer = o.buffer }
 
 -- of a question, which changes no byte
-abbrev pub findReported : Finding → FindReport
-findReported a = standingReportOf (findStatusOf a) (findCountsOf a) (findStandingOf a) (findOriginOf a)
+abbrev pub find_reported : Finding → FindReport
+find_reported a = standing_report_of (find_status_of a) (find_counts_of a) (find_standing_of a) (find_origin_of a)

@@ -3,8 +3,8 @@
 ghost use Rattle.std.specs.Prelude.{◌≡◌};
 ghost use Rattle.layout.specs.Layout.{layout_of};
 ghost use Rattle.steps.specs.Allowance.{images};
-ghost use Rattle.rules.specs.Calls.{formatCall, openCall, writeCall, commitCall, collectCall, readCall, addCall, findCall};
-ghost use Rattle.vazhettu.specs.Reports.{reported, readReported, Reported, reportedOf, ReadReported, readReportedOf, findReported};
+ghost use Rattle.rules.specs.Calls.{format_call, open_call, write_call, commit_call, collect_call, read_call, add_call, find_call};
+ghost use Rattle.vazhettu.specs.Reports.{reported, read_reported, Reported, reported_of, ReadReported, read_reported_of, find_reported};
 
 use answers::{
     FindReport, ReadReport, Report, origin_number, with_counts, with_origin, with_standing,
@@ -26,7 +26,7 @@ fn report_of(a: Answer) -> Report
 
 // A report of the answer of a read.
 fn read_report_of(a: Reading) -> ReadReport
-    ensures { result ≡ readReported a }
+    ensures { result ≡ read_reported a }
 {
     match a {
         Reading::Done(c, o) => with_origin(0, c, origin_number(o)),
@@ -36,7 +36,7 @@ fn read_report_of(a: Reading) -> ReadReport
 
 // A report of the answer of a question.
 fn find_report_of(a: Finding) -> FindReport
-    ensures { result ≡ findReported a }
+    ensures { result ≡ find_reported a }
 {
     match a {
         Finding::Done(c, x, o) => with_standing(0, c, x, origin_number(o)),
@@ -55,7 +55,7 @@ pub extern "C" fn vazhettu_format(
 ) -> Report
     ensures { ◌≡◌ {A = Reported}
         (record { report = result; images = images chips.new records.new slots.now })
-        (reportedOf (formatCall (layout_of g) (images chips.old records.old slots.now) allowance)) }
+        (reported_of (format_call (layout_of g) (images chips.old records.old slots.now) allowance)) }
 {
     report_of(calls::format(g, chips, records, slots, allowance))
 }
@@ -72,7 +72,7 @@ pub extern "C" fn vazhettu_open(
 ) -> Report
     ensures { ◌≡◌ {A = Reported}
         (record { report = result; images = images chips.new records.new slots.now })
-        (reportedOf (openCall (layout_of g) (images chips.old records.old slots.now) lost allowance)) }
+        (reported_of (open_call (layout_of g) (images chips.old records.old slots.now) lost allowance)) }
 {
     report_of(calls::open(g, chips, records, slots, lost, allowance))
 }
@@ -90,7 +90,7 @@ pub extern "C" fn vazhettu_read(
 ) -> ReadReport
     ensures { ◌≡◌ {A = ReadReported}
         (record { report = result; buffer = buffer.new })
-        (readReportedOf (readCall (layout_of g) (images chips.now records.now slots.now) lost page buffer.old)) }
+        (read_reported_of (read_call (layout_of g) (images chips.now records.now slots.now) lost page buffer.old)) }
 {
     read_report_of(calls::read(g, chips, records, slots, lost, page, buffer))
 }
@@ -109,7 +109,7 @@ pub extern "C" fn vazhettu_write(
 ) -> Report
     ensures { ◌≡◌ {A = Reported}
         (record { report = result; images = images chips.new records.new slots.new })
-        (reportedOf (writeCall (layout_of g) (images chips.old records.old slots.old) lost page bytes.now allowance)) }
+        (reported_of (write_call (layout_of g) (images chips.old records.old slots.old) lost page bytes.now allowance)) }
 {
     report_of(calls::write(g, chips, records, slots, lost, page, bytes, allowance))
 }
@@ -127,7 +127,7 @@ pub extern "C" fn vazhettu_commit(
 ) -> Report
     ensures { ◌≡◌ {A = Reported}
         (record { report = result; images = images chips.new records.new slots.now })
-        (reportedOf (commitCall (layout_of g) (images chips.old records.old slots.now) lost stripe allowance)) }
+        (reported_of (commit_call (layout_of g) (images chips.old records.old slots.now) lost stripe allowance)) }
 {
     report_of(calls::commit(g, chips, records, slots, lost, stripe, allowance))
 }
@@ -145,7 +145,7 @@ pub extern "C" fn vazhettu_collect(
 ) -> Report
     ensures { ◌≡◌ {A = Reported}
         (record { report = result; images = images chips.new records.new slots.now })
-        (reportedOf (collectCall (layout_of g) (images chips.old records.old slots.now) lost chip allowance)) }
+        (reported_of (collect_call (layout_of g) (images chips.old records.old slots.now) lost chip allowance)) }
 {
     report_of(calls::collect(g, chips, records, slots, lost, chip, allowance))
 }
@@ -163,7 +163,7 @@ pub extern "C" fn vazhettu_add(
 ) -> Report
     ensures { ◌≡◌ {A = Reported}
         (record { report = result; images = images chips.new records.new slots.new })
-        (reportedOf (addCall (layout_of g) (images chips.old records.old slots.old) lost ticket.now allowance)) }
+        (reported_of (add_call (layout_of g) (images chips.old records.old slots.old) lost ticket.now allowance)) }
 {
     report_of(tickets::add(g, chips, records, slots, lost, ticket, allowance))
 }
@@ -179,7 +179,7 @@ pub extern "C" fn vazhettu_find(
     lot: u32,
     bag: u16,
 ) -> FindReport
-    ensures { result ≡ findReported (findCall (layout_of g) (images chips.now records.now slots.now) lost lot bag) }
+    ensures { result ≡ find_reported (find_call (layout_of g) (images chips.now records.now slots.now) lost lot bag) }
 {
     find_report_of(tickets::find(g, chips, records, slots, lost, lot, bag))
 }

@@ -2,20 +2,20 @@
 
 ghost use Rattle.std.specs.Prelude.{◌≡◌, true, false, ℕ, ◌<◌, length, get_or};
 ghost use Rattle.ranges.specs.declared.Found.TheVariants.{At, Nothing};
-ghost use Rattle.ranges.specs.Look.{countBelow, whenFound, foundIn};
+ghost use Rattle.ranges.specs.Look.{count_below, when_found, found_in};
 ghost use Rattle.layout.specs.Layout.{layout_of, limits};
-ghost use Rattle.layout.specs.Rotation.{memberChip, parityChip};
-ghost use Rattle.layout.specs.Record.{recordAt, slotted as slottedAt};
+ghost use Rattle.layout.specs.Rotation.{member_chip, parity_chip};
+ghost use Rattle.layout.specs.Record.{record_at, slotted as slottedAt};
 ghost use Rattle.rules.specs.Room.{placed};
-ghost use Rattle.rules.specs.Partial.{lowestFreeSlot, writeAt};
-ghost use Rattle.rules.specs.Write.{commitOwed, owedSteps, writeMember};
+ghost use Rattle.rules.specs.Partial.{lowest_free_slot, write_at};
+ghost use Rattle.rules.specs.Write.{commit_owed, owed_steps, write_member};
 ghost use Rattle.steps.specs.Allowance.{Sane, Ran, images};
 ghost use Rattle.codec.specs.Fit.{RecordsFit, SlotsFit};
 ghost use Rattle.names.specs.Checked.{Settled};
-ghost use Rattle.records.specs.Slots.{slotScan};
+ghost use Rattle.records.specs.Slots.{slot_scan};
 ghost use Rattle.spares.specs.Scans.{unscanned};
 ghost use Rattle.space.specs.Victims.{VictimFor, Victims};
-ghost use Rattle.write.specs.Slots.{lowerOf};
+ghost use Rattle.write.specs.Slots.{lower_of};
 
 use codec::{NO_SLOT, member_chip, parity_chip, slot_at};
 use collect::make_room;
@@ -30,15 +30,15 @@ use steps::Progress;
 
 // Whether stripe j has no slot and M records have; slotted is how many have one.
 fn is_owed(records: &[u8], g: Geometry, j: usize, slotted: usize) -> bool
-    requires { RecordsFit g records.now × (j < g.s) × (slotted ≡ countBelow g.s (slottedAt (recordAt (layout_of g) records.now))) }
-    ensures { result ≡ commitOwed (layout_of g) (recordAt (layout_of g) records.now) j }
+    requires { RecordsFit g records.now × (j < g.s) × (slotted ≡ count_below g.s (slottedAt (record_at (layout_of g) records.now))) }
+    ensures { result ≡ commit_owed (layout_of g) (record_at (layout_of g) records.now) j }
 {
     (slot_at(records, g, j) == NO_SLOT) & (slotted == g.m as usize)
 }
 
 // The lower of the free slot, if any, and slot t.
 fn lower(free: Found, t: usize) -> Found
-    ensures { result ≡ lowerOf free t }
+    ensures { result ≡ lower_of free t }
 {
     match free {
         Found::At(i) => if i < t { Found::At(i) } else { Found::At(t) },
@@ -49,7 +49,7 @@ fn lower(free: Found, t: usize) -> Found
 // The victim of the chip that the parity of the cheapest stripe is on.
 fn commit_victim(g: Geometry, scans: [ChipScan; 7], cheapest: Found) -> Found
     requires { limits (layout_of g) ≡ true }
-    ensures { result ≡ whenFound cheapest (λ k. foundIn (get_or scans (parityChip (layout_of g) k) unscanned).victim) Nothing }
+    ensures { result ≡ when_found cheapest (λ k. found_in (get_or scans (parity_chip (layout_of g) k) unscanned).victim) Nothing }
 {
     match cheapest {
         Found::At(k) => victim_in(scans[parity_chip(g, k)]),
@@ -78,12 +78,12 @@ fn commit_owed(
     p: Progress,
 ) -> Owed
     requires { Settled g chips.old records.old × SlotsFit g slots.now × (length work.old ≡ g.w) × Sane p
-        × (commitOwed (layout_of g) (recordAt (layout_of g) records.old) j ≡ true)
-        × ((k : ℕ) → seen.cheapest ≡ At k → VictimFor g chips.old records.old (parityChip (layout_of g) k) v)
-        × (seen ≡ slotScan (layout_of g) (recordAt (layout_of g) records.old)) }
-    ensures { Ran (layout_of g) p (owedSteps (layout_of g) j (images chips.old records.old slots.now))
+        × (commit_owed (layout_of g) (record_at (layout_of g) records.old) j ≡ true)
+        × ((k : ℕ) → seen.cheapest ≡ At k → VictimFor g chips.old records.old (parity_chip (layout_of g) k) v)
+        × (seen ≡ slot_scan (layout_of g) (record_at (layout_of g) records.old)) }
+    ensures { Ran (layout_of g) p (owed_steps (layout_of g) j (images chips.old records.old slots.now))
         result.run (images chips.old records.old slots.now) (images chips.new records.new slots.now)
-        × (result.run.cut ≡ false → result.free ≡ lowestFreeSlot (layout_of g) (recordAt (layout_of g) records.new)) }
+        × (result.run.cut ≡ false → result.free ≡ lowest_free_slot (layout_of g) (record_at (layout_of g) records.new)) }
 {
     let cheapest = seen.cheapest;
     let free = seen.free;
@@ -117,10 +117,10 @@ fn place_member(
     p: Progress,
 ) -> Progress
     requires { Settled g chips.old records.old × SlotsFit g slots.old × (length work.old ≡ g.w) × (j < g.s) × (m < g.n) × (length bytes.now ≡ g.w) × Sane p
-        × (anew ≡ false → VictimFor g chips.old records.old (memberChip (layout_of g) j m) v)
-        × (free ≡ lowestFreeSlot (layout_of g) (recordAt (layout_of g) records.old)) }
+        × (anew ≡ false → VictimFor g chips.old records.old (member_chip (layout_of g) j m) v)
+        × (free ≡ lowest_free_slot (layout_of g) (record_at (layout_of g) records.old)) }
     ensures { Ran (layout_of g) p
-        (placed (layout_of g) (memberChip (layout_of g) j m) (writeAt (layout_of g) j m bytes.now) (images chips.old records.old slots.old))
+        (placed (layout_of g) (member_chip (layout_of g) j m) (write_at (layout_of g) j m bytes.now) (images chips.old records.old slots.old))
         result (images chips.old records.old slots.old) (images chips.new records.new slots.new) }
 {
     let c = member_chip(g, j, m);
@@ -154,9 +154,9 @@ pub fn write_member(
     p: Progress,
 ) -> Progress
     requires { Settled g chips.old records.old × SlotsFit g slots.old × (length work.old ≡ g.w) × (j < g.s) × (m < g.n) × (length bytes.now ≡ g.w) × Sane p
-        × Victims g chips.old records.old scans × (seen ≡ slotScan (layout_of g) (recordAt (layout_of g) records.old)) }
+        × Victims g chips.old records.old scans × (seen ≡ slot_scan (layout_of g) (record_at (layout_of g) records.old)) }
     ensures { Ran (layout_of g) p
-        (writeMember (layout_of g) j m bytes.now (images chips.old records.old slots.old))
+        (write_member (layout_of g) j m bytes.now (images chips.old records.old slots.old))
         result (images chips.old records.old slots.old) (images chips.new records.new slots.new) }
 {
     let v = victim_in(scans[member_chip(g, j, m)]);

@@ -6,8 +6,8 @@ use mathlib.Core.Path.{◌≡◌}
 use mathlib.Core.Logic.{◌≢◌}
 use lib.ListN.{take, length-take}
 use borrow.Author.Rules.{rules}
-use Rattle.commands.specs.Parsing.{commandOf}
-use Rattle.commands.proofs.Theorems.{number-within}
+use Rattle.commands.specs.Parsing.{command_of}
+use Rattle.commands.proofs.Theorems.{number_within}
 use Rattle.bench.proofs.obey_line.Statement.{statement}
 use Rattle.bench.proofs.obey_line.Tie as tie
 
@@ -21,9 +21,9 @@ within : (c : tie.After-struct-known2) → c.before.before.before.parse.result.d
 within c =
     let p = c.before.before.before.parse in
     let line = take (taken c) (buffer c) in
-    let e : p.result ≡ commandOf line = p.ensures in
+    let e : p.result ≡ command_of line = p.ensures in
     let h : p.result.letter ≢ 0 = c.before.if1.false in
-    let w = number-within line (rw e at h) in
+    let w = number_within line (rw e at h) in
     rw e (omega (arith, length-take (taken c) (buffer c)))
 
 pub obey-line-spec : {M : Type 1} → statement M

@@ -6,17 +6,17 @@ use mathlib.Core.List.{◌++◌}
 use borrow.Author.Tests.{leb-true}
 use borrow.Author.Rules.{rules}
 use lib.Dec.{leb}
-use Rattle.bytes.proofs.Work.{front_long}
+use Rattle.octets.proofs.Work.{front_long}
 use Rattle.layout.specs.Layout.{layout_of}
-use Rattle.layout.specs.Page.{pageAt}
-use Rattle.layout.specs.Record.{recordAt}
+use Rattle.layout.specs.Page.{page_at}
+use Rattle.layout.specs.Record.{record_at}
 use Rattle.layout.specs.Images.{Images}
 use Rattle.steps.specs.Allowance.{images}
 use Rattle.ranges.specs.declared.Found.TheVariants.{At}
-use Rattle.rules.specs.Collect.{victimOf}
-use Rattle.rules.proofs.Lists.Collecting.{victim-collectable}
-use Rattle.rules.specs.Refusals.{checked, settledRows}
-use Rattle.calls.proofs.Results.{freeRows, FreeReady, free-told, free-ready, collect-refused, collect-nothing, collect-ran}
+use Rattle.rules.specs.Collect.{victim_of}
+use Rattle.rules.proofs.Lists.Collecting.{victim_collectable}
+use Rattle.rules.specs.Refusals.{checked, settled_rows}
+use Rattle.calls.proofs.Results.{free_rows, FreeReady, free_told, free_ready, collect_refused, collect_nothing, collect_ran}
 use Rattle.calls.proofs.collect.Statement.{statement}
 use Rattle.calls.proofs.collect.Tie as tie
 
@@ -29,13 +29,13 @@ lent s = images s.args.chips.now s.args.records.now s.args.slots.now
 
 told : (c : tie.After-free-check)
     → let a = (start c).args in
-    c.free-check.result ≡ checked (settledRows (layout_of a.g) (lent (start c)) a.lost ++ freeRows (leb a.chip a.g.n) a.lost)
-told c = free-told _ _ _ _ c.before.before.settled-look.ensures c.free-check.ensures
+    c.free-check.result ≡ checked (settled_rows (layout_of a.g) (lent (start c)) a.lost ++ free_rows (leb a.chip a.g.n) a.lost)
+told c = free_told _ _ _ _ c.before.before.settled-look.ensures c.free-check.ensures
 
 passed : (c : tie.After-enum-told)
     → let s = start c.before.before in
     FreeReady s.args.g (lent s) s.args.lost (leb s.args.chip s.args.g.n) c.before.before.before.before.settled-look.result
-passed c = free-ready _ _ _ _ c.before.before.before.before.settled-look.ensures (told c.before.before) c.enum_told.given.1
+passed c = free_ready _ _ _ _ c.before.before.before.before.settled-look.ensures (told c.before.before) c.enum_told.given.1
 
 -- there is such a chip
 low : (c : tie.After-enum-told) → let a = (start c.before.before).args in a.chip ≤ a.g.n
@@ -43,40 +43,40 @@ low c = leb-true _ _ (passed c).fit
 
 -- and it is one of at most seven
 seven : (c : tie.After-enum-told) → (start c.before.before).args.chip < 7
-seven c = omega (arith, (passed c).ready.store.within-limits.members-high, low c)
+seven c = omega (arith, (passed c).ready.store.within_limits.members_high, low c)
 
 -- the victim that was found is that of the chip
 known : (c : tie.After-victim-in)
     → let a = (start c.before.before.before.before).args in
     let l = layout_of a.g in
-    c.victim-in.result ≡ victimOf l a.chip (pageAt l a.chips.now a.chip) (recordAt l a.records.now)
+    c.victim-in.result ≡ victim_of l a.chip (page_at l a.chips.now a.chip) (record_at l a.records.now)
 known c = c.victim-in.ensures ∙ (passed c.before.before).ready.known.at _ (low c.before.before)
 
 -- and so is the block that is collected
 victim : (c : tie.After-v)
     → let a = (start c.before.before.before.before.before.before).args in
     let l = layout_of a.g in
-    victimOf l a.chip (pageAt l a.chips.now a.chip) (recordAt l a.records.now) ≡ At c.v.given.0.0
+    victim_of l a.chip (page_at l a.chips.now a.chip) (record_at l a.records.now) ≡ At c.v.given.0.0
 victim c = sym (known c.before.before) ∙ c.v.given.1
 
 returns : tie.Need-returns
-returns c = collect-refused _ _ _ _ _ c.before.check.given.0.0 (sym (told c.before.before.before) ∙ c.before.check.given.1)
+returns c = collect_refused _ _ _ _ _ c.before.check.given.0.0 (sym (told c.before.before.before) ∙ c.before.check.given.1)
 
 collect-chip-requires : tie.Need-collect-chip-requires
 collect-chip-requires c κs =
     let store = (passed c.before.before.before.before.before.before.before.before.before).ready.store in
     let a = (start c.before.before.before.before.before.before.before.before.before.before.before).args in
     let l = layout_of a.g in
-    let (block, can) = victim-collectable l a.chip (pageAt l a.chips.now a.chip) (recordAt l a.records.now) _ (victim c.before.before.before.before.before) in
-    (store.settled, low c.before.before.before.before.before.before.before.before.before, c.before.before.before.start.ensures.1, block, can, store.slots-fit, front_long _ 4096 store.within-limits.bytes_high)
+    let (block, can) = victim_collectable l a.chip (page_at l a.chips.now a.chip) (record_at l a.records.now) _ (victim c.before.before.before.before.before) in
+    (store.settled, low c.before.before.before.before.before.before.before.before.before, c.before.before.before.start.ensures.1, block, can, store.slots_fit, front_long _ 4096 store.within_limits.bytes_high)
 
 returns-2 : tie.Need-returns-2
 returns-2 c =
     rw c.answer.ensures
-    (collect-ran _ _ _ _ _ (passed c.before.before.before.before.before.before.before.before.before.before.before.before.before.before.before.before) _ (victim c.before.before.before.before.before.before.before.before.before.before.before.before) c.before.before.before.before.before.before.before.before.before.before.start.ensures.0 c.before.before.before.before.before.before.collect-chip.ensures)
+    (collect_ran _ _ _ _ _ (passed c.before.before.before.before.before.before.before.before.before.before.before.before.before.before.before.before) _ (victim c.before.before.before.before.before.before.before.before.before.before.before.before) c.before.before.before.before.before.before.before.before.before.before.start.ensures.0 c.before.before.before.before.before.before.collect-chip.ensures)
 
 returns-3 : tie.Need-returns-3
-returns-3 c = collect-nothing _ _ _ _ _ (passed c.before.before.before.before) (sym (known c.before.before) ∙ c.enum-told2.given.1)
+returns-3 c = collect_nothing _ _ _ _ _ (passed c.before.before.before.before) (sym (known c.before.before) ∙ c.enum-told2.given.1)
 
 pub collect-spec : {M : Type 1} → statement M
 collect-spec =
@@ -96,7 +96,7 @@ collect-spec =
     (λ c κs. search rules)
     (λ c. search rules)
     (λ c. search rules)
-    (λ c. (passed c.before.before.before.before.before.before.before.before).ready.store.within-limits.bytes_high)
+    (λ c. (passed c.before.before.before.before.before.before.before.before).ready.store.within_limits.bytes_high)
     collect-chip-requires
     (λ c κs. search rules)
     (λ c. search rules)

@@ -12,7 +12,7 @@ use Rattle.calls.proofs.page_check.Tie as tie
 returns : tie.Need-returns
 returns c =
     let a = c.before.before.before.args in
-    rw (c.also2.ensures, c.before.also.ensures, c.before.before.page-fits.ensures)
+    rw (c.also2.ensures, c.before.also.ensures, c.before.before.page_fits.ensures)
     (one_more a.first (ltb a.page (a.g.n * a.g.s)) Request (unless (eqb a.len a.g.w) Data Passed))
 
 pub page-check-spec : {M : Type 1} → statement M

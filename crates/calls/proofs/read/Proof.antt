@@ -4,25 +4,25 @@ use borrow.Author.Rules.{rules}
 use native.Mathlib.Omega.{arith}
 use Rattle.layout.specs.Layout.{layout_of}
 use Rattle.rules.specs.declared.Check.TheVariants.{Passed}
-use Rattle.rules.specs.Refusals.{checked, readRows}
+use Rattle.rules.specs.Refusals.{checked, read_rows}
 use Rattle.steps.specs.Allowance.{images}
-use Rattle.calls.proofs.Results.{ReadReady, read_told, read-ready, read-refused, read_done}
+use Rattle.calls.proofs.Results.{ReadReady, read_told, read_ready, read_refused, read_done}
 use Rattle.calls.proofs.read.Statement.{statement}
 use Rattle.calls.proofs.read.Tie as tie
 
 told : (c : tie.After-page-check) → let a = c.before.before.before.before.before.before.args in
-    c.page-check.result ≡ checked (readRows (layout_of a.g) (images a.chips.now a.records.now a.slots.now) a.lost a.page a.buffer.now)
+    c.page-check.result ≡ checked (read_rows (layout_of a.g) (images a.chips.now a.records.now a.slots.now) a.lost a.page a.buffer.now)
 told c = read_told _ _ _ _ _ c.before.images-look.ensures c.page-check.ensures
 
 passed : (c : tie.After-enum-told) → let a = c.before.before.before.before.before.before.before.before.args in
-    checked (readRows (layout_of a.g) (images a.chips.now a.records.now a.slots.now) a.lost a.page a.buffer.now) ≡ Passed
+    checked (read_rows (layout_of a.g) (images a.chips.now a.records.now a.slots.now) a.lost a.page a.buffer.now) ≡ Passed
 passed c = sym (told c.before.before) ∙ c.enum_told.given.1
 
 ready : (c : tie.After-enum-told) → let a = c.before.before.before.before.before.before.before.before.args in ReadReady a.g (images a.chips.now a.records.now a.slots.now) a.page a.buffer.now
-ready c = let a = c.before.before.before.before.before.before.before.before.args in read-ready a.g _ a.lost _ _ (passed c)
+ready c = let a = c.before.before.before.before.before.before.before.before.args in read_ready a.g _ a.lost _ _ (passed c)
 
 returns : tie.Need-returns
-returns c = read-refused _ _ _ _ _ c.before.check.given.0.0 (sym (told c.before.before.before) ∙ c.before.check.given.1)
+returns c = read_refused _ _ _ _ _ c.before.check.given.0.0 (sym (told c.before.before.before) ∙ c.before.check.given.1)
 
 read-member-requires : tie.Need-read-member-requires
 read-member-requires c κs =
@@ -42,8 +42,8 @@ read_spec =
     (λ c. search rules)
     returns
     (λ c. search rules)
-    (λ c. omega (arith, (ready c.before).ready.fit.within-limits.members-low))
-    (λ c. omega (arith, (ready c.before.before).ready.fit.within-limits.members-low))
+    (λ c. omega (arith, (ready c.before).ready.fit.within_limits.members_low))
+    (λ c. omega (arith, (ready c.before.before).ready.fit.within_limits.members_low))
     read-member-requires
     (λ c. search rules)
     returns-2)

@@ -2,19 +2,19 @@
 use native.Mathlib.Omega.{arith}
 use mathlib.Core.Path.{ap, ◌∙◌}
 use Rattle.layout.specs.Record.{Record}
-use Rattle.layout.specs.Images.{recordsLength}
-use Rattle.codec.specs.Views.{recordFrom, ended}
-use Rattle.codec.proofs.Encodings.{record-in}
+use Rattle.layout.specs.Images.{records_length}
+use Rattle.codec.specs.Views.{record_from, ended}
+use Rattle.codec.proofs.Encodings.{record_in_lem}
 use Rattle.codec.proofs.bitmap_at.Statement.{statement}
 use Rattle.codec.proofs.bitmap_at.Tie as tie
 
 returns : tie.Need-returns
-unfolding recordFrom ended
+unfolding record_from ended
 returns c =
     let s = c.before.before in
     let a = s.args in
-    (c.byte.ensures.0 ∙ ap (λ (r : Record). r.bitmap) (record-in a.g a.records.now a.j s.requires.1), c.byte.ensures.1)
+    (c.byte.ensures.0 ∙ ap (λ (r : Record). r.bitmap) (record_in_lem a.g a.records.now a.j s.requires.1), c.byte.ensures.1)
 
 pub bitmap-at-spec : {M : Type 1} → statement M
-unfolding recordsLength
+unfolding records_length
 bitmap-at-spec = tie.close (tie.spec (λ c. omega arith) (λ c. omega arith) (λ c κs. omega arith) returns)

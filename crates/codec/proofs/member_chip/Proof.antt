@@ -16,4 +16,4 @@ pub member-chip-spec : {M : Type 1} → statement M
 member-chip-spec =
     tie.close
     (tie.spec (λ c κs. search rules)
-    (λ c κs. let s = c.before in omega (arith, s.requires.1, (within (layout_of s.args.g) s.requires.0).members-high)) returns)
+    (λ c κs. let s = c.before in omega (arith, s.requires.1, (within (layout_of s.args.g) s.requires.0).members_high)) returns)

@@ -2,9 +2,9 @@
 use native.Mathlib.Omega.{arith}
 use native.Mathlib.Nat.{add-sub_cancel_left}
 use borrow.Author.Rules.{rules}
-use Rattle.bytes.specs.Units.{part}
-use Rattle.bytes.proofs.Units.{length_part}
-use Rattle.codec.proofs.Offsets.{page-in}
+use Rattle.octets.specs.Units.{part}
+use Rattle.octets.proofs.Units.{length_part}
+use Rattle.codec.proofs.Offsets.{page_in_lem}
 use Rattle.codec.proofs.page_data.Statement.{statement}
 use Rattle.codec.proofs.page_data.Tie as tie
 
@@ -12,7 +12,7 @@ returns : tie.Need-returns
 unfolding part
 returns c =
     let a = c.before.before.before.args in
-    let x = page-in a.g a.chips.now a.c a.p c.before.before.before.requires.2 in
+    let x = page_in_lem a.g a.chips.now a.c a.p c.before.before.before.requires.2 in
     rw add-sub_cancel_left
     ((cc), length_part c.before.page-offset.result a.g.w a.chips.now (omega arith))
 

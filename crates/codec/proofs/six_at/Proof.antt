@@ -1,13 +1,13 @@
 -- The six calls of `number_at` give the six numbers, each of two bytes.
 use borrow.Author.Rules.{rules}
-use Rattle.codec.proofs.Encodings.{six-below}
+use Rattle.codec.proofs.Encodings.{six_below}
 use Rattle.codec.proofs.six_at.Statement.{statement}
 use Rattle.codec.proofs.six_at.Tie as tie
 
 returns : tie.Need-returns
 returns c = (
   cc,
-  six-below
+  six_below
       65536
       c.before.before.before.before.before.number_at.ensures.1
       c.before.before.before.before.number-at2.ensures.1

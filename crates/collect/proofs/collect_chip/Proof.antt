@@ -3,11 +3,11 @@ use mathlib.Core.Path.{◌≡◌, sym, ◌∙◌}
 use borrow.Author.Rules.{rules}
 use Rattle.ranges.specs.declared.Found.TheVariants.{At}
 use Rattle.layout.specs.Layout.{layout_of}
-use Rattle.layout.specs.Page.{pageAt}
+use Rattle.layout.specs.Page.{page_at}
 use Rattle.steps.specs.Allowance.{images}
-use Rattle.steps.proofs.Allowances.{ran-none}
-use Rattle.rules.specs.Blocks.{lowestCleanBlock}
-use Rattle.collect.proofs.Rooms.{ordered, copied-checked, collect-cut, collect-ran, collect-nowhere}
+use Rattle.steps.proofs.Allowances.{ran_none}
+use Rattle.rules.specs.Blocks.{lowest_clean_block}
+use Rattle.collect.proofs.Rooms.{ordered, copied_checked, collect_cut, collect_ran, collect_nowhere}
 use Rattle.collect.proofs.collect_chip.Statement.{statement}
 use Rattle.collect.proofs.collect_chip.Tie as tie
 
@@ -25,7 +25,7 @@ copies c = c.before.before.before.before.before
 -- the destination is the lowest clean block
 lowest : (c : tie.After-d)
     → let a = (start (found c)).args in
-    lowestCleanBlock (layout_of a.g) (pageAt (layout_of a.g) a.chips.now a.c) ≡ At c.d.given.0.0
+    lowest_clean_block (layout_of a.g) (page_at (layout_of a.g) a.chips.now a.c) ≡ At c.d.given.0.0
 lowest c = sym (found c).clean-block-on.ensures ∙ c.d.given.1
 
 clean-block-on-requires : tie.Need-clean-block-on-requires
@@ -43,19 +43,19 @@ returns : tie.Need-returns
 returns c =
     let k = c.before.before.before.before.before.before.before in
     let h = (start (found (copies k))).pre in
-    collect-cut h.0 h.1 h.3 h.4 (lowest (copies k)) h.5.long k.copy-block.ensures c.if1.taken
+    collect_cut h.0 h.1 h.3 h.4 (lowest (copies k)) h.5.long k.copy-block.ensures c.if1.taken
 
 finish-requires : tie.Need-finish-requires
 finish-requires c κs =
     let k = c.before.before.before.before.before.before.before.before.before in
     let s = start (found (copies k)) in
-    (copied-checked s.pre.0 s.pre.1 s.pre.3 s.pre.4 (lowest (copies k)) s.pre.5.long k.copy-block.ensures c.before.before.if1.left, k.copy-block.ensures.sane)
+    (copied_checked s.pre.0 s.pre.1 s.pre.3 s.pre.4 (lowest (copies k)) s.pre.5.long k.copy-block.ensures c.before.before.if1.left, k.copy-block.ensures.sane)
 
 returns-2 : tie.Need-returns-2
 returns-2 c =
     let k = c.before.before.before.before.before.before.before.before.before.before.before.before.before.before in
     let h = (start (found (copies k))).pre in
-    collect-ran h.0 h.1 h.3 h.4 (lowest (copies k)) h.5.long k.copy-block.ensures (c.before.before.before.before.finish.ensures _ h.5.long)
+    collect_ran h.0 h.1 h.3 h.4 (lowest (copies k)) h.5.long k.copy-block.ensures (c.before.before.before.before.finish.ensures _ h.5.long)
 
 returns-3 : tie.Need-returns-3
 returns-3 c =
@@ -63,7 +63,7 @@ returns-3 c =
     let a = s.args in
     let l = layout_of a.g in
     let v = images a.chips.now a.records.now a.slots.now in
-    rw (collect-nowhere l v a.c a.v (sym c.before.before.clean-block-on.ensures ∙ c.enum_told.given.1)) (ran-none l a.p v s.pre.2)
+    rw (collect_nowhere l v a.c a.v (sym c.before.before.clean-block-on.ensures ∙ c.enum_told.given.1)) (ran_none l a.p v s.pre.2)
 
 pub collect-chip-spec : {M : Type 1} → statement M
 collect-chip-spec =

@@ -4,14 +4,14 @@ use mathlib.Core.Path.{◌∙◌}
 use mathlib.Core.Logic.{◌≢◌}
 use borrow.Author.Rules.{rules}
 use Rattle.layout.specs.Layout.{layout_of}
-use Rattle.layout.specs.Collection.{collectionAt}
-use Rattle.steps.specs.Steps.{thenBelow}
+use Rattle.layout.specs.Collection.{collection_at}
+use Rattle.steps.specs.Steps.{then_below}
 use Rattle.steps.specs.Allowance.{images}
-use Rattle.steps.proofs.Allowances.{ran-none, ran_then}
-use Rattle.rules.specs.Open.{ending, moveSteps}
+use Rattle.steps.proofs.Allowances.{ran_none, ran_then}
+use Rattle.rules.specs.Open.{ending, move_steps}
 use Rattle.collect.proofs.Underway.{Working, working}
-use Rattle.names.proofs.Statements.{some-slots}
-use Rattle.collect.proofs.Moves.{finish-first, finish-second, finish-idle}
+use Rattle.names.proofs.Statements.{some_slots}
+use Rattle.collect.proofs.Moves.{finish_first, finish_second, finish_idle}
 use Rattle.collect.proofs.finish.Statement.{statement}
 use Rattle.collect.proofs.finish.Tie as tie
 
@@ -26,7 +26,7 @@ end-requires c κs =
     let t = c.before.before.before.before in
     let s = t.before.before.before.before in
     let w = way t (omega arith) in
-    (s.requires.0.chips-fit, s.requires.0.records-pass.fit, w.chip, w.destination, s.requires.1)
+    (s.requires.0.chips_fit, s.requires.0.records_pass.fit, w.chip, w.destination, s.requires.1)
 
 returns : tie.Need-returns
 returns c =
@@ -34,7 +34,7 @@ returns c =
     let t = f.before.before in
     let a = t.before.before.before.before.args in
     λ zs e.
-    rw (finish-first (layout_of a.g) (images a.chips.now a.records.now zs) t.collection-at.result t.collection-at.ensures f.if1.true)
+    rw (finish_first (layout_of a.g) (images a.chips.now a.records.now zs) t.collection-at.result t.collection-at.ensures f.if1.true)
     (c.before.before.before.before.end.ensures zs)
 
 move-all-requires : tie.Need-move-all-requires
@@ -46,9 +46,9 @@ end-requires-2 c κs =
     let t = m.before.before.before.before.before.before.before in
     let s = t.before.before.before.before in
     let w = way t (omega (arith, m.before.before.before.if2.true)) in
-    let (zs, e) = some-slots (layout_of s.args.g) in (
-      s.requires.0.chips-fit,
-      record { limited = s.requires.0.chips-fit.limited; long = m.move_all.auto.1.0 ∙ s.requires.0.records-pass.fit.long },
+    let (zs, e) = some_slots (layout_of s.args.g) in (
+      s.requires.0.chips_fit,
+      record { limited = s.requires.0.chips_fit.limited; long = m.move_all.auto.1.0 ∙ s.requires.0.records_pass.fit.long },
       w.chip,
       w.victim,
       (m.move_all.ensures zs e).sane,
@@ -70,8 +70,8 @@ returns-2 c =
     let r = a.records.now in
     λ zs e.
     let s = images a.chips.now r zs in
-    rw (finish-second l s t.collection-at.result t.collection-at.ensures f.if2.true)
-    (ran_then l a.p m.move_all.result n.end2.result (thenBelow l a.g.k (moveSteps l (collectionAt l r)) s)
+    rw (finish_second l s t.collection-at.result t.collection-at.ensures f.if2.true)
+    (ran_then l a.p m.move_all.result n.end2.result (then_below l a.g.k (move_steps l (collection_at l r)) s)
     (λ v. ending t.collection-at.result.chip t.collection-at.result.victim) s (images a.chips.now m.move_all.new.1.0 zs)
     (images n.end2.new.0 n.end2.new.1.0 zs) (m.move_all.ensures zs e) (n.end2.ensures zs))
 
@@ -83,8 +83,8 @@ returns-3 c =
     let l = layout_of a.g in
     λ zs e.
     let v = images a.chips.now a.records.now zs in
-    rw (finish-idle l v t.collection-at.result t.collection-at.ensures c.before.before.if1.false c.if2.false)
-    (ran-none l a.p v s.requires.1)
+    rw (finish_idle l v t.collection-at.result t.collection-at.ensures c.before.before.if1.false c.if2.false)
+    (ran_none l a.p v s.requires.1)
 
 pub finish_spec : {M : Type 1} → statement M
 finish_spec =

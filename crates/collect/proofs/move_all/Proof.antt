@@ -4,10 +4,10 @@ use Prim.Native.Nat.{◌-◌}
 use native.Mathlib.Omega.{arith}
 use mathlib.Core.Path.{◌≡◌, sym, ◌∙◌}
 use borrow.Author.Rules.{rules}
-use Rattle.layout.specs.Layout.{layout_of, noChip}
-use Rattle.layout.specs.Collection.{collectionAt}
+use Rattle.layout.specs.Layout.{layout_of, no_chip}
+use Rattle.layout.specs.Collection.{collection_at}
 use Rattle.names.specs.Checked.{Checked}
-use Rattle.collect.proofs.Moves.{Carried, carried_none, carried-cut, carried-sound, carried-more}
+use Rattle.collect.proofs.Moves.{Carried, carried_none, carried_cut, carried_sound, carried_more}
 use Rattle.collect.proofs.move_all.Statement.{statement}
 use Rattle.collect.proofs.move_all.Tie as tie
 
@@ -27,19 +27,19 @@ returns : tie.Need-returns invariant-loop decreases-loop
 returns c =
     let t = c.before.before in
     let a = t.before.before.before.args in
-    carried-cut a.g a.chips.now a.records.now a.p t.loop.i t.loop.run t.loop.records t.loop.invariant c.if1.true
+    carried_cut a.g a.chips.now a.records.now a.p t.loop.i t.loop.run t.loop.records t.loop.invariant c.if1.true
 
 -- while the call is not cut
 going : (c : tie.Else1 invariant-loop decreases-loop)
     → let t = c.before.before in
     let a = t.before.before.before.args in
     let l = layout_of a.g in
-    Checked a.g noChip a.chips.now t.loop.records × (collectionAt l t.loop.records ≡ collectionAt l a.records.now)
+    Checked a.g no_chip a.chips.now t.loop.records × (collection_at l t.loop.records ≡ collection_at l a.records.now)
 going c =
     let t = c.before.before in
     let s = t.before.before.before in
     let a = s.args in
-    carried-sound a.g a.chips.now a.records.now a.p t.loop.i t.loop.run t.loop.records t.loop.invariant
+    carried_sound a.g a.chips.now a.records.now a.p t.loop.i t.loop.run t.loop.records t.loop.invariant
     s.requires.0 (sym s.requires.1.phase ∙ s.requires.2) c.if1.false
 
 move-from-requires : tie.Need-move-from-requires invariant-loop decreases-loop
@@ -54,8 +54,8 @@ loop-again c =
     let t = w.before.before in
     let s = t.before.before.before in
     let a = s.args in
-    let n = c.before.before.move-from in
-    carried-more a.g a.chips.now a.records.now a.p t.loop.i t.loop.run t.loop.records t.loop.invariant
+    let n = c.before.before.move_from_lem in
+    carried_more a.g a.chips.now a.records.now a.p t.loop.i t.loop.run t.loop.records t.loop.invariant
     s.requires.0 (sym s.requires.1.phase ∙ s.requires.2) w.if1.false n.result n.new.1.0 w.before.loop-test.true n.auto.1.0 n.ensures
 
 returns-2 : tie.Need-returns-2 invariant-loop decreases-loop

@@ -5,7 +5,7 @@ use mathlib.Core.Path.{◌≡◌, sym, ◌∙◌}
 use lib.ListN.{length, length-map}
 use borrow.Author.Rules.{rules}
 use Rattle.layout.specs.Layout.{layout_of}
-use Rattle.collect.proofs.Repointing.{parity-moved, member-moved}
+use Rattle.collect.proofs.Repointing.{parity_moved, member_moved}
 use Rattle.collect.proofs.repoint.Statement.{statement}
 use Rattle.collect.proofs.repoint.Tie as tie
 
@@ -13,7 +13,7 @@ returns : tie.Need-returns
 returns c =
     let s = c.before.before.before in
     let a = s.args in
-    parity-moved (layout_of a.g) a.t2 a.c a.j a.p a.q s.requires.2 s.requires.3
+    parity_moved (layout_of a.g) a.t2 a.c a.j a.p a.q s.requires.2 s.requires.3
     (c.before.if1.true ∙ c.before.before.parity-chip.ensures.0) c.moved.result c.moved.ensures
 
 member-on-requires : tie.Need-member-on-requires
@@ -27,10 +27,10 @@ returns-2 c =
     let s = m.before.before.before in
     let a = s.args in
     let six : length a.t2.current ≡ 6 = simp length-map at s.well-formed.1.0.1.1.0.1.0.1 in
-    let six-old : length a.t2.old ≡ 6 = simp length-map at s.well-formed.1.0.1.1.1.0.1.0.1 in
-    member-moved (layout_of a.g) a.t2 a.c a.j a.p a.q s.requires.2 s.requires.3
+    let six_old : length a.t2.old ≡ 6 = simp length-map at s.well-formed.1.0.1.1.1.0.1.0.1 in
+    member_moved (layout_of a.g) a.t2 a.c a.j a.p a.q s.requires.2 s.requires.3
     (λ e. m.before.if1.false (e ∙ sym m.before.before.parity-chip.ensures.0))
-    m.member-on.result c.before.before.moved2.result c.moved3.result (m.member-on.ensures.0 a.j m.before.before.parity-chip.ensures.0) m.member-on.ensures.2 six six-old
+    m.member-on.result c.before.before.moved2.result c.moved3.result (m.member-on.ensures.0 a.j m.before.before.parity-chip.ensures.0) m.member-on.ensures.2 six six_old
     c.before.before.moved2.ensures c.moved3.ensures
 
 pub repoint-spec : {M : Type 1} → statement M

@@ -4,13 +4,13 @@ use native.Mathlib.Omega.{arith}
 use mathlib.Core.Path.{◌≡◌}
 use lib.ListN.{length, drop}
 use borrow.Author.Rules.{rules}
-use Rattle.commands.specs.Parsing.{digitCount}
-use Rattle.commands.proofs.Digits.{count_next, count-here, count-end}
+use Rattle.commands.specs.Parsing.{digit_count}
+use Rattle.commands.proofs.Digits.{count_next, count_here, count_end}
 use Rattle.commands.proofs.digit_count.Statement.{statement}
 use Rattle.commands.proofs.digit_count.Tie as tie
 
 abbrev invariant-loop : tie.invariant-loop
-invariant-loop s i₀ i = (i ≤ length s) × (digitCount s ≡ i + digitCount (drop i s))
+invariant-loop s i₀ i = (i ≤ length s) × (digit_count s ≡ i + digit_count (drop i s))
 
 abbrev decreases-loop : tie.decreases-loop
 decreases-loop s i₀ i = length s - i
@@ -18,7 +18,7 @@ decreases-loop s i₀ i = length s - i
 returns : tie.Need-returns invariant-loop decreases-loop
 returns c =
     let l = c.before.before.before.before.loop in
-    count-here c.before.before.before.before.before.before.args.s.now l.i l.invariant.1 (omega arith) (omega arith)
+    count_here c.before.before.before.before.before.before.args.s.now l.i l.invariant.1 (omega arith) (omega arith)
 
 loop-again : tie.Need-loop-preserved invariant-loop decreases-loop
 loop-again c =
@@ -28,7 +28,7 @@ loop-again c =
 returns-2 : tie.Need-returns-2 invariant-loop decreases-loop
 returns-2 c =
     let l = c.before.loop in
-    count-end c.before.before.before.args.s.now l.i l.invariant.1 (omega arith)
+    count_end c.before.before.before.args.s.now l.i l.invariant.1 (omega arith)
 
 pub digit-count-spec : {M : Type 1} → statement M
 digit-count-spec =

@@ -3,7 +3,7 @@ use lib.Dec.{leb}
 use borrow.Author.Tests.{leb-true}
 use borrow.Author.Rules.{rules}
 use Rattle.ranges.proofs.Tests.{and_both}
-use Rattle.commands.specs.Parsing.{digitValue}
+use Rattle.commands.specs.Parsing.{digit_value}
 use Rattle.commands.proofs.digit_value.Statement.{statement}
 use Rattle.commands.proofs.digit_value.Tie as tie
 
@@ -18,15 +18,15 @@ sub-result-2 c =
     leb-true 97 b (and_both (leb 97 b) (leb b 102) c.if2.taken).0
 
 returns : tie.Need-returns
-unfolding digitValue
+unfolding digit_value
 returns c = rw c.if1.taken
 
 returns-2 : tie.Need-returns-2
-unfolding digitValue
+unfolding digit_value
 returns-2 c = rw (c.before.if1.left, c.if2.taken)
 
 returns-3 : tie.Need-returns-3
-unfolding digitValue
+unfolding digit_value
 returns-3 c = rw (c.before.if1.left, c.if2.left)
 
 pub digit-value-spec : {M : Type 1} → statement M

@@ -3,11 +3,11 @@ use mathlib.Core.Path.{sym, ◌∙◌}
 use borrow.Author.Rules.{rules}
 use Rattle.layout.specs.Layout.{layout_of}
 use Rattle.steps.specs.Allowance.{Ran, images}
-use Rattle.rules.specs.Parity.{commitAt}
-use Rattle.rules.specs.Commit.{commitSteps}
-use Rattle.rules.specs.Room.{roomSteps}
+use Rattle.rules.specs.Parity.{commit_at}
+use Rattle.rules.specs.Commit.{commit_steps}
+use Rattle.rules.specs.Room.{room_steps}
 use Rattle.collect.proofs.Rooms.{ordered}
-use Rattle.commit.proofs.Placing.{record-passes, place-fits, room_settled, room-slotted, placed-cut, placed_at, placed-nowhere, placed_on}
+use Rattle.commit.proofs.Placing.{record_passes, place_fits, room_settled, room_slotted, placed_cut, placed_at, placed_nowhere, placed_on}
 use Rattle.commit.proofs.commit_stripe.Statement.{statement}
 use Rattle.commit.proofs.commit_stripe.Tie as tie
 
@@ -26,7 +26,7 @@ made : (c : tie.After-make-room)
     → let a = (start (chip c)).args in
     let l = layout_of a.g in
     let s = images a.chips.now a.records.now a.slots.now in
-    Ran l a.p (roomSteps l (chip c).parity-chip.result s) c.make-room.result s
+    Ran l a.p (room_steps l (chip c).parity-chip.result s) c.make-room.result s
     (images c.make-room.new.0 c.make-room.new.1.0 a.slots.now)
 made c = c.make-room.ensures
 
@@ -38,13 +38,13 @@ make-room-requires c κs =
     (h.0, on.1, rw on.0 h.6, h.4, h.1, h.2)
 
 returns : tie.Need-returns
-unfolding commitSteps
+unfolding commit_steps
 returns c =
     let m = c.before.before.before.before.before.before.before in
     let s = start (chip m) in
     let on = (chip m).parity-chip.ensures in
-    let fill = commitAt (layout_of s.args.g) s.args.j in
-    placed_on (layout_of s.args.g) on.0 fill (placed-cut s.pre.0 s.pre.1 on.1 (made m) fill c.if1.true)
+    let fill = commit_at (layout_of s.args.g) s.args.j in
+    placed_on (layout_of s.args.g) on.0 fill (placed_cut s.pre.0 s.pre.1 on.1 (made m) fill c.if1.true)
 
 place-on-requires : tie.Need-place-on-requires
 place-on-requires c κs =
@@ -61,19 +61,19 @@ commit-at-requires c κs =
     let low = (chip m).parity-chip.ensures.1 in
     let going = at.before.before.if1.false in
     let r = room_settled h.0 h.1 low (made m) going in (
-      r.checked.chips-fit,
-      r.checked.records-pass.fit,
+      r.checked.chips_fit,
+      r.checked.records_pass.fit,
       h.1,
       m.make-room.kept.1.1.1.0 ∙ h.2,
       h.3,
-      place-fits r low (sym at.place-on.ensures ∙ c.before.before.before.before.q.given.1),
+      place_fits r low (sym at.place-on.ensures ∙ c.before.before.before.before.q.given.1),
       (made m).sane,
-      record-passes r h.3,
-      room-slotted h.0 h.1 low (made m) going h.3 h.5,
+      record_passes r h.3,
+      room_slotted h.0 h.1 low (made m) going h.3 h.5,
     )
 
 returns-2 : tie.Need-returns-2
-unfolding commitSteps
+unfolding commit_steps
 returns-2 c =
     let done = c.before.before.before.before.before.before in
     let q = done.before.before.before.before.before in
@@ -81,20 +81,20 @@ returns-2 c =
     let m = room at in
     let s = start (chip m) in
     let on = (chip m).parity-chip.ensures in
-    let fill = commitAt (layout_of s.args.g) s.args.j in
+    let fill = commit_at (layout_of s.args.g) s.args.j in
     placed_on (layout_of s.args.g) on.0 fill
     (placed_at s.pre.0 s.pre.1 on.1 (made m) fill (sym at.place-on.ensures ∙ q.q.given.1) done.commit-at.ensures)
 
 returns-3 : tie.Need-returns-3
-unfolding commitSteps
+unfolding commit_steps
 returns-3 c =
     let at = c.before.before in
     let m = room at in
     let s = start (chip m) in
     let on = (chip m).parity-chip.ensures in
-    let fill = commitAt (layout_of s.args.g) s.args.j in
+    let fill = commit_at (layout_of s.args.g) s.args.j in
     placed_on (layout_of s.args.g) on.0 fill
-    (placed-nowhere s.pre.0 s.pre.1 on.1 (made m) fill (sym at.place-on.ensures ∙ c.enum_told.given.1))
+    (placed_nowhere s.pre.0 s.pre.1 on.1 (made m) fill (sym at.place-on.ensures ∙ c.enum_told.given.1))
 
 pub commit-stripe-spec : {M : Type 1} → statement M
 commit-stripe-spec =

@@ -8,9 +8,9 @@ use mathlib.Core.Path.{◌≡◌, sym, ◌∙◌}
 use lib.ListN.{length}
 use borrow.Author.Rules.{rules}
 use Rattle.layout.specs.Layout.{layout_of, none, pages}
-use Rattle.layout.specs.Images.{slotsLength}
-use Rattle.layout.proofs.Pages.{page-in-fits}
-use Rattle.copying.proofs.Copies.{Copying, copying-none, copying-skips, copying-more, copying-cut, copying-all, copying-room, copying-stamps, copying-page, copying-stands, copying-still, Begun, chosen}
+use Rattle.layout.specs.Images.{slots_length}
+use Rattle.layout.proofs.Pages.{page_in_fits}
+use Rattle.copying.proofs.Copies.{Copying, copying_none, copying_skips, copying_more, copying_cut, copying_all, copying_room, copying_stamps, copying_page, copying_stands, copying_still, Begun, chosen}
 use Rattle.names.proofs.Statements.{within}
 use Rattle.copying.proofs.copy_block.Statement.{statement}
 use Rattle.copying.proofs.copy_block.Tie as tie
@@ -25,7 +25,7 @@ store-phase-requires : tie.Need-store-phase-requires invariant-loop decreases-lo
 store-phase-requires c κs =
     let s = c.before.before.before.before.before in
     let h = s.requires.0.checked in
-    (h.records-pass.fit, omega arith, omega (arith, s.requires.1, (within _ _ _ h).members-high), s.requires.2)
+    (h.records_pass.fit, omega arith, omega (arith, s.requires.1, (within _ _ _ h).members_high), s.requires.2)
 
 -- at the loop
 abbrev start : tie.After-slice-known4 invariant-loop decreases-loop → tie.Start invariant-loop decreases-loop
@@ -35,7 +35,7 @@ start c = c.before.before.before.before.before.before.before.before
 abbrev slots : tie.After-slice-known4 invariant-loop decreases-loop → List ℕ
 slots c = (start c).args.slots.now
 
-long : (c : tie.After-slice-known4 invariant-loop decreases-loop) → length (slots c) ≡ slotsLength (layout_of (start c).args.g)
+long : (c : tie.After-slice-known4 invariant-loop decreases-loop) → length (slots c) ≡ slots_length (layout_of (start c).args.g)
 long c = (start c).requires.6.long
 
 begun : (c : tie.After-slice-known4 invariant-loop decreases-loop)
@@ -48,7 +48,7 @@ begun c =
 returns : tie.Need-returns invariant-loop decreases-loop
 returns c =
     let k = c.before.before.before in
-    copying-cut (begun k) (slots k) (long k) c.before.before.loop.invariant.1 c.if1.true
+    copying_cut (begun k) (slots k) (long k) c.before.before.loop.invariant.1 c.if1.true
 
 -- the blocks are there
 blocks : (c : tie.After-slice-known4 invariant-loop decreases-loop) → ((start c).args.v < (start c).args.g.b) × ((start c).args.d < (start c).args.g.b)
@@ -68,16 +68,16 @@ place c =
     let s = start k in
     let l = layout_of s.args.g in
     let low = c.before.loop-test.true in (
-      page-in-fits l s.args.v t.loop.i (blocks k).0 low,
-      page-in-fits l s.args.d t.loop.copies (blocks k).1 (copying-room t.loop.invariant.1 low),
-      (within _ _ _ s.pre.0.checked).pages-numbered,
+      page_in_fits l s.args.v t.loop.i (blocks k).0 low,
+      page_in_fits l s.args.d t.loop.copies (blocks k).1 (copying_room t.loop.invariant.1 low),
+      (within _ _ _ s.pre.0.checked).pages_numbered,
     )
 
 named-at-requires : tie.Need-named-at-requires invariant-loop decreases-loop
 named-at-requires c κs =
     let w = c.before.before in
     let t = w.before.before in
-    (copying-stamps (begun t.before) (slots t.before) (long t.before) t.loop.invariant.1 w.if1.false, (place w).0)
+    (copying_stamps (begun t.before) (slots t.before) (long t.before) t.loop.invariant.1 w.if1.false, (place w).0)
 
 copy-page-requires : tie.Need-copy-page-requires invariant-loop decreases-loop
 copy-page-requires c κs =
@@ -86,15 +86,15 @@ copy-page-requires c κs =
     let s = start t.before in
     let l = layout_of s.args.g in
     let h = s.pre.0.checked in
-    let named-too = sym c.before.before.before.before.named-at.ensures ∙ c.before.before.before.if2.true in (
-      record { limited = h.chips-fit.limited; long = t.loop.invariant.1.same ∙ h.chips-fit.long },
-      record { limited = h.chips-fit.limited; long = t.before.before.before.store-phase.auto.0 ∙ h.records-pass.fit.long },
+    let named_too = sym c.before.before.before.before.named-at.ensures ∙ c.before.before.before.if2.true in (
+      record { limited = h.chips_fit.limited; long = t.loop.invariant.1.same ∙ h.chips_fit.long },
+      record { limited = h.chips_fit.limited; long = t.before.before.before.store-phase.auto.0 ∙ h.records_pass.fit.long },
       s.pre.6,
       s.pre.1,
       (place w).0,
       (place w).1,
       t.loop.invariant.1.sane,
-      copying-page (begun t.before) (slots t.before) (long t.before) t.loop.invariant.1 w.if1.false t.loop.i w.before.loop-test.true named-too,
+      copying_page (begun t.before) (slots t.before) (long t.before) t.loop.invariant.1 w.if1.false t.loop.i w.before.loop-test.true named_too,
       t.loop.invariant.0,
     )
 
@@ -109,10 +109,10 @@ loop-again c =
     (λ z.
     rw (z.9, z.10, z.11, z.12) (
       z.4.kept.1.1.1.0 ∙ t.loop.invariant.0,
-      copying-more t.loop.invariant.1 low (sym told ∙ z.0.taken) (copying-still (begun k) (slots k) (long k) t.loop.invariant.1 w.if1.false t.loop.i low) z.4.kept.0
-          (copying-stands (begun k) (slots k) (long k) t.loop.invariant.1 w.if1.false t.loop.i low (sym told ∙ z.0.taken) z.4.ensures),
+      copying_more t.loop.invariant.1 low (sym told ∙ z.0.taken) (copying_still (begun k) (slots k) (long k) t.loop.invariant.1 w.if1.false t.loop.i low) z.4.kept.0
+          (copying_stands (begun k) (slots k) (long k) t.loop.invariant.1 w.if1.false t.loop.i low (sym told ∙ z.0.taken) z.4.ensures),
     ))
-    (λ z. rw (z.1, z.2, z.3, z.4) (t.loop.invariant.0, copying-skips t.loop.invariant.1 low (sym told ∙ z.0.left)))
+    (λ z. rw (z.1, z.2, z.3, z.4) (t.loop.invariant.0, copying_skips t.loop.invariant.1 low (sym told ∙ z.0.left)))
     c.if2.branch
 
 store-phase-requires-2 : tie.Need-store-phase-requires-2 invariant-loop decreases-loop
@@ -120,7 +120,7 @@ store-phase-requires-2 c κs =
     let k = c.before.before.before in
     let s = start k in
     let h = s.pre.0.checked in
-    (record { limited = h.chips-fit.limited; long = k.before.before.store-phase.auto.0 ∙ h.records-pass.fit.long }, omega arith, omega (arith, s.pre.1, (within _ _ _ h).members-high), c.before.before.loop.invariant.1.sane)
+    (record { limited = h.chips_fit.limited; long = k.before.before.store-phase.auto.0 ∙ h.records_pass.fit.long }, omega arith, omega (arith, s.pre.1, (within _ _ _ h).members_high), c.before.before.loop.invariant.1.sane)
 
 same-length-5 : tie.Need-same-length-5 invariant-loop decreases-loop
 same-length-5 c = c.before.before.store-phase2.auto.0 ∙ c.before.before.before.before.before.before.before.before.store-phase.auto.0
@@ -128,7 +128,7 @@ same-length-5 c = c.before.before.store-phase2.auto.0 ∙ c.before.before.before
 returns-2 : tie.Need-returns-2 invariant-loop decreases-loop
 returns-2 c =
     let t = c.before.before.before.before.before in
-    copying-all (begun t.before) (slots t.before) (long t.before) t.loop.invariant.1 (omega arith) (c.before.before.store-phase2.ensures _ _)
+    copying_all (begun t.before) (slots t.before) (long t.before) t.loop.invariant.1 (omega arith) (c.before.before.store-phase2.ensures _ _)
 
 pub copy-block-spec : {M : Type 1} → statement M
 copy-block-spec =
@@ -137,7 +137,7 @@ copy-block-spec =
     invariant-loop
     decreases-loop
     store-phase-requires
-    (λ c. ((start c).requires.7, copying-none (c.before.before.store-phase.ensures [] []).sane))
+    (λ c. ((start c).requires.7, copying_none (c.before.before.store-phase.ensures [] []).sane))
     (λ c. c.before.before.loop.invariant.1.same)
     (λ c. search rules)
     (λ c. c.before.before.loop.invariant.0 ∙ sym (start c.before.before.before).pre.7)

@@ -5,20 +5,20 @@ use Prim.Native.Nat.{ℕ}
 use lib.ListN.{length, replicate}
 use native.Mathlib.Omega.{arith}
 use borrow.Author.Rules.{rules}
-use Rattle.layout.specs.Layout.{layout_of, none, noChip}
-use Rattle.layout.specs.Page.{pageAt}
-use Rattle.layout.specs.Record.{recordAt}
+use Rattle.layout.specs.Layout.{layout_of, none, no_chip}
+use Rattle.layout.specs.Page.{page_at}
+use Rattle.layout.specs.Record.{record_at}
 use Rattle.layout.specs.Images.{Images}
 use Rattle.layout.proofs.Limits.{within}
 use Rattle.steps.specs.Allowance.{images}
 use Rattle.rules.specs.declared.Role.{Role}
-use Rattle.rules.specs.Names.{roleOf}
-use Rattle.rules.specs.Fetch.{fetchIn}
-use Rattle.rules.specs.Collect.{copyFeed}
-use Rattle.rules.specs.Sound.{recordSound}
+use Rattle.rules.specs.Names.{role_of}
+use Rattle.rules.specs.Fetch.{fetch_in}
+use Rattle.rules.specs.Collect.{copy_feed}
+use Rattle.rules.specs.Sound.{record_sound}
 use Rattle.codec.specs.declared.Spare.{Spare}
-use Rattle.fetch.proofs.Pages.{into-same}
-use Rattle.copying.proofs.Copies.{copy_ran, copy-fetched}
+use Rattle.fetch.proofs.Pages.{into_same}
+use Rattle.copying.proofs.Copies.{copy_ran, copy_fetched}
 use Rattle.copying.proofs.copy_page.Statement.{statement}
 use Rattle.copying.proofs.copy_page.Tie as tie
 
@@ -27,15 +27,15 @@ abbrev entry : tie.After-spare-at → tie.Start
 entry c = c.before.before.before.before.before.before
 
 -- the stripe on the page, of which the record is sound
-stripe-there : (c : tie.After-spare-at) → let a = (entry c).args in c.spare-at.result.stripe ≡ (pageAt (layout_of a.g) a.chips.now a.c a.p).stripe
+stripe-there : (c : tie.After-spare-at) → let a = (entry c).args in c.spare-at.result.stripe ≡ (page_at (layout_of a.g) a.chips.now a.c a.p).stripe
 stripe-there c = ap (λ (t : Spare). t.stripe) c.spare-at.ensures.0
 
 sound-there : (c : tie.After-spare-at)
-    → let a = (entry c).args in recordSound (layout_of a.g) (recordAt (layout_of a.g) a.records.now c.spare-at.result.stripe) ≡ true
+    → let a = (entry c).args in record_sound (layout_of a.g) (record_at (layout_of a.g) a.records.now c.spare-at.result.stripe) ≡ true
 sound-there c =
     let a = (entry c).args in
     let l = layout_of a.g in
-    subst (λ j. recordSound l (recordAt l a.records.now j) ≡ true) (sym (stripe-there c)) (entry c).requires.7.sound
+    subst (λ j. record_sound l (record_at l a.records.now j) ≡ true) (sym (stripe-there c)) (entry c).requires.7.sound
 
 role-of-requires : tie.Need-role-of-requires
 role-of-requires c κs =
@@ -62,17 +62,17 @@ before c = let a = (start c).args in images a.chips.now a.records.now a.slots.no
 held : (c : tie.After-fetch)
     → let a = (start c).args in
     let l = layout_of a.g in
-    (c.fetch.new.0 ≡ (copyFeed l a.c (before c) a.p).bytes) × (c.fetch.result.reads ≡ (copyFeed l a.c (before c) a.p).reads) × (length c.fetch.new.0 ≡ a.g.w)
+    (c.fetch.new.0 ≡ (copy_feed l a.c (before c) a.p).bytes) × (c.fetch.result.reads ≡ (copy_feed l a.c (before c) a.p).reads) × (length c.fetch.new.0 ≡ a.g.w)
 held c =
     let s = start c in
     let a = s.args in
     let l = layout_of a.g in
-    let r = recordAt l a.records.now in
+    let r = record_at l a.records.now in
     let j = (told c).spare-at.result.stripe in
-    copy-fetched l (within l s.pre.0.limited) (before c) a.c a.p (omega (arith, s.pre.3)) s.pre.4 s.pre.7 s.pre.0.long
-    (into-same
-    (ap (λ (q : Role). fetchIn l (before c) noChip j q) c.before.before.before.role-of.ensures.0
-    ∙ ap (λ i. fetchIn l (before c) noChip i (roleOf l a.c i (r i) a.p)) (stripe-there (told c)))
+    copy_fetched l (within l s.pre.0.limited) (before c) a.c a.p (omega (arith, s.pre.3)) s.pre.4 s.pre.7 s.pre.0.long
+    (into_same
+    (ap (λ (q : Role). fetch_in l (before c) no_chip j q) c.before.before.before.role-of.ensures.0
+    ∙ ap (λ i. fetch_in l (before c) no_chip i (role_of l a.c i (r i) a.p)) (stripe-there (told c)))
     (ap (λ (n : ℕ). replicate n 0) s.pre.8) c.fetch.ensures)
 
 program-requires : tie.Need-program-requires
@@ -87,7 +87,7 @@ program-requires c κs =
       s.pre.3,
       s.pre.5,
       (held k).2,
-      record { kind = t.kind; member = t.member; stripe = t.stripe; copied = omega (arith, s.pre.4, w.pages-numbered) },
+      record { kind = t.kind; member = t.member; stripe = t.stripe; copied = omega (arith, s.pre.4, w.pages_numbered) },
       omega (arith, k.fetch.ensures.few),
       s.pre.6,
     )
@@ -99,7 +99,7 @@ returns c =
     let l = layout_of a.g in
     let spare = (told k).spare-at in
     λ rs zs.
-    copy_ran l a.c a.p a.q (pageAt l a.chips.now a.c) (copyFeed l a.c (before k) a.p) spare.result a.run _ _ _ (held k).0 (held k).1 spare.ensures.0 (c.before.before.program.ensures rs zs)
+    copy_ran l a.c a.p a.q (page_at l a.chips.now a.c) (copy_feed l a.c (before k) a.p) spare.result a.run _ _ _ (held k).0 (held k).1 spare.ensures.0 (c.before.before.program.ensures rs zs)
 
 pub copy-page-spec : {M : Type 1} → statement M
 copy-page-spec =

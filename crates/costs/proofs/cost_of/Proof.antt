@@ -2,16 +2,16 @@
 use native.Mathlib.Omega.{arith}
 use mathlib.Core.Path.{sym, ◌∙◌}
 use borrow.Author.Rules.{rules}
-use Rattle.rules.specs.Costs.{costOf}
+use Rattle.rules.specs.Costs.{cost_of}
 use Rattle.costs.proofs.cost_of.Statement.{statement}
 use Rattle.costs.proofs.cost_of.Tie as tie
 
 returns : tie.Need-returns
-unfolding costOf
+unfolding cost_of
 returns c = (rw (sym c.before.most-in-partial.ensures ∙ c.if1.true), omega arith)
 
 returns-2 : tie.Need-returns-2
-unfolding costOf
+unfolding cost_of
 returns-2 c = (rw (sym c.before.most-in-partial.ensures ∙ c.if1.false), omega arith)
 
 pub cost-of-spec : {M : Type 1} → statement M

@@ -2,7 +2,7 @@
 use native.Mathlib.Omega.{arith}
 use borrow.Author.Rules.{rules}
 use Rattle.layout.specs.Layout.{layout_of}
-use Rattle.fetch.proofs.Others.{six, current-fits, old-fits}
+use Rattle.fetch.proofs.Others.{six, current_fits, old_fits}
 use Rattle.fetch.proofs.chip_of.Statement.{statement}
 use Rattle.fetch.proofs.chip_of.Tie as tie
 
@@ -26,9 +26,9 @@ chip-of-spec =
     tie.close
     (tie.spec
     (λ c. search rules)
-    (λ c κs. let s = c.before.before.before in six s.args.g s.requires.0 (current-fits s.args.g c.before.role.given.1 s.requires.2))
+    (λ c κs. let s = c.before.before.before in six s.args.g s.requires.0 (current_fits s.args.g c.before.role.given.1 s.requires.2))
     (λ c. search rules)
-    (λ c κs. let s = c.before.before.before in six s.args.g s.requires.0 (old-fits s.args.g c.before.role2.given.1 s.requires.2))
+    (λ c κs. let s = c.before.before.before in six s.args.g s.requires.0 (old_fits s.args.g c.before.role2.given.1 s.requires.2))
     (λ c. search rules)
     returns
     returns-2

@@ -4,11 +4,11 @@ use mathlib.Core.Path.{refl, ap}
 use lib.ListN.{replicate}
 use borrow.Author.Rules.{rules}
 use Rattle.layout.specs.Layout.{layout_of}
-use Rattle.layout.specs.Record.{recordAt}
+use Rattle.layout.specs.Record.{record_at}
 use Rattle.layout.proofs.Limits.{within}
 use Rattle.steps.specs.Allowance.{images}
-use Rattle.rules.proofs.Soundness.RecordChecks.{record-sound}
-use Rattle.fetch.proofs.Pages.{into-same}
+use Rattle.rules.proofs.Soundness.RecordChecks.{record_sound_lem}
+use Rattle.fetch.proofs.Pages.{into_same}
 use Rattle.fetch.proofs.Whole.{read_is}
 use Rattle.fetch.proofs.fetch_member.Statement.{statement}
 use Rattle.fetch.proofs.fetch_member.Tie as tie
@@ -20,7 +20,7 @@ returns c =
     let l = layout_of a.g in
     let h = c.before.before.fetch.ensures in (
       read_is l (within l s.requires.0.limited) (images a.chips.now a.records.now a.slots.now) s.requires.0.long s.requires.2.long a.lost a.j a.m s.requires.5
-          (record-sound l (recordAt l a.records.now a.j) s.requires.6) (into-same refl (ap (λ (n : ℕ). replicate n 0) s.requires.3) h),
+          (record_sound_lem l (record_at l a.records.now a.j) s.requires.6) (into_same refl (ap (λ (n : ℕ). replicate n 0) s.requires.3) h),
       h.few,
     )
 

@@ -3,8 +3,8 @@ use Prim.Native.Nat.{◌<◌}
 use native.Mathlib.Omega.{arith}
 use mathlib.Core.Path.{◌∙◌}
 use Rattle.layout.specs.Layout.{layout_of, none}
-use Rattle.layout.specs.Record.{recordAt}
-use Rattle.fetch.proofs.Others.{six, number-current}
+use Rattle.layout.specs.Record.{record_at}
+use Rattle.fetch.proofs.Others.{six, number_current}
 use Rattle.fetch.proofs.is_direct.Statement.{statement}
 use Rattle.fetch.proofs.is_direct.Tie as tie
 
@@ -17,7 +17,7 @@ returns c =
     let s = c.before.before.before in
     let l = layout_of s.args.g in
     rw (
-      c.before.number_in.ensures.0 ∙ number-current (recordAt l s.args.records.now s.args.j) s.args.m (low s),
+      c.before.number_in.ensures.0 ∙ number_current (record_at l s.args.records.now s.args.j) s.args.m (low s),
       c.chip-beside.ensures.0 l s.args.j s.requires.3,
     )
 

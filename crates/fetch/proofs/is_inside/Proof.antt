@@ -5,14 +5,14 @@ use mathlib.Core.Path.{ap, ◌∙◌}
 use lib.Dec.{eqb}
 use borrow.Author.Rules.{rules}
 use Rattle.layout.specs.Record.{bit}
-use Rattle.fetch.proofs.Others.{six, current-fits}
+use Rattle.fetch.proofs.Others.{six, current_fits}
 use Rattle.fetch.proofs.is_inside.Statement.{statement}
 use Rattle.fetch.proofs.is_inside.Tie as tie
 
 bit-of-requires : tie.Need-bit-of-requires
 bit-of-requires c κs =
     let s = c.before.before.before.before.before in
-    let low = six s.args.g s.requires.0.limited (current-fits s.args.g c.before.before.role.given.1 s.requires.2) in
+    let low = six s.args.g s.requires.0.limited (current_fits s.args.g c.before.before.role.given.1 s.requires.2) in
     omega (arith, low)
 
 returns : tie.Need-returns

@@ -3,8 +3,8 @@ use Prim.Native.Nat.{◌<◌}
 use native.Mathlib.Omega.{arith}
 use mathlib.Core.Path.{◌≡◌, ◌∙◌}
 use Rattle.layout.specs.Layout.{layout_of}
-use Rattle.layout.specs.Record.{recordAt}
-use Rattle.fetch.proofs.Others.{six, number-current}
+use Rattle.layout.specs.Record.{record_at}
+use Rattle.fetch.proofs.Others.{six, number_current}
 use Rattle.fetch.proofs.lent.Statement.{statement}
 use Rattle.fetch.proofs.lent.Tie as tie
 
@@ -12,8 +12,8 @@ low : (s : tie.Start) → s.args.m < 6
 low s = six s.args.g s.requires.0.limited s.requires.4
 
 -- the number is the member's current one
-number : (c : tie.After-number-in) → let s = c.before.before.before.before.before in c.number_in.result ≡ (recordAt (layout_of s.args.g) s.args.records.now s.args.j).current s.args.m
-number c = let s = c.before.before.before.before.before in c.number_in.ensures.0 ∙ number-current (recordAt (layout_of s.args.g) s.args.records.now s.args.j) s.args.m (low s)
+number : (c : tie.After-number-in) → let s = c.before.before.before.before.before in c.number_in.result ≡ (record_at (layout_of s.args.g) s.args.records.now s.args.j).current s.args.m
+number c = let s = c.before.before.before.before.before in c.number_in.ensures.0 ∙ number_current (record_at (layout_of s.args.g) s.args.records.now s.args.j) s.args.m (low s)
 
 page-data-requires : tie.Need-page-data-requires
 page-data-requires c κs =

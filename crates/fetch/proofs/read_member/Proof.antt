@@ -4,7 +4,7 @@ use mathlib.Core.Path.{◌≡◌, refl, sym, ap, ◌∙◌}
 use mathlib.Core.List.{List, ◌++◌}
 use borrow.Author.Rules.{rules}
 use lib.ListN.{length, take, drop, replicate}
-use Rattle.bytes.proofs.Work.{front_long, front-back}
+use Rattle.octets.proofs.Work.{front_long, front_back}
 use Rattle.layout.specs.Layout.{layout_of}
 use Rattle.layout.proofs.Limits.{within}
 use Rattle.fetch.proofs.read_member.Statement.{statement}
@@ -27,7 +27,7 @@ front : (c : tie.After-fetch-member2)
     → let w = c.before.before.before.before.before.before.before.before.args.g.w in
     let work = c.fetch-member2.new.0 ++ drop (w - 0) (replicate 4096 0) in
     (w ≤ length work) × (take (w - 0) work ≡ c.fetch-member2.new.0)
-front c = let s = c.before.before.before.before.before.before.before.before in front-back s.args.g.w 4096 (narrow s) c.fetch-member2.auto.0 refl
+front c = let s = c.before.before.before.before.before.before.before.before in front_back s.args.g.w 4096 (narrow s) c.fetch-member2.auto.0 refl
 
 copy-requires : tie.Need-copy-requires
 copy-requires c κs =

@@ -5,16 +5,16 @@ use native.Mathlib.Nat.{zero-add}
 use mathlib.Core.Path.{refl, sym, ap, ◌∙◌}
 use mathlib.Core.List.{List}
 use borrow.Author.Rules.{rules}
-use Rattle.bytes.specs.Xor.{◌⊕◌}
+use Rattle.octets.specs.Xor.{◌⊕◌}
 use Rattle.layout.specs.Layout.{layout_of}
-use Rattle.layout.specs.Page.{pageAt}
-use Rattle.layout.specs.Record.{recordAt}
-use Rattle.layout.specs.Images.{slotAt}
-use Rattle.rules.specs.Fetch.{gathered, othersInside, throughPartial}
-use Rattle.rules.proofs.Soundness.RecordChecks.{record-sound}
+use Rattle.layout.specs.Page.{page_at}
+use Rattle.layout.specs.Record.{record_at}
+use Rattle.layout.specs.Images.{slot_at}
+use Rattle.rules.specs.Fetch.{gathered, others_inside, through_partial}
+use Rattle.rules.proofs.Soundness.RecordChecks.{record_sound_lem}
 use Rattle.fetch.specs.Into.{begun}
-use Rattle.fetch.proofs.Pages.{into-two}
-use Rattle.fetch.proofs.Others.{slot-low}
+use Rattle.fetch.proofs.Pages.{into_two}
+use Rattle.fetch.proofs.Others.{slot_low}
 use Rattle.fetch.proofs.through_partial.Statement.{statement}
 use Rattle.fetch.proofs.through_partial.Tie as tie
 
@@ -23,20 +23,20 @@ slot-data-requires c κs =
     let s = c.before.before.before.before.before.before in
     let a = s.args in
     let l = layout_of a.g in
-    let r = recordAt l a.records.now a.j in
-    (s.requires.2, rw c.slot_at.ensures.0 (slot-low l r (record-sound l r s.requires.6) a.m s.requires.7))
+    let r = record_at l a.records.now a.j in
+    (s.requires.2, rw c.slot_at.ensures.0 (slot_low l r (record_sound_lem l r s.requires.6) a.m s.requires.7))
 
 returns : tie.Need-returns
-unfolding throughPartial
+unfolding through_partial
 returns c =
     let s = c.before.before.before.before.before.before.before.before.before.before.before.before.before.before in
     let a = s.args in
     let l = layout_of a.g in
-    let r = recordAt l a.records.now a.j in
+    let r = record_at l a.records.now a.j in
     let called = c.before.before.gather.ensures in
-    into-two (slotAt l a.slots.now r.slot) (gathered l (pageAt l a.chips.now) a.j (othersInside l a.m r)).bytes refl
-    (called.0 ∙ ap (λ (x : List ℕ). x ⊕ (gathered l (pageAt l a.chips.now) a.j (othersInside l a.m r)).bytes)
-    (c.before.before.before.before.before.before.add.ensures ∙ ap (λ (x : List ℕ). begun a.fresh a.work.now ⊕ x) (c.before.before.before.before.before.before.before.slot-data.ensures.0 ∙ ap (slotAt l a.slots.now) c.before.before.before.before.before.before.before.before.slot_at.ensures.0)))
+    into_two (slot_at l a.slots.now r.slot) (gathered l (page_at l a.chips.now) a.j (others_inside l a.m r)).bytes refl
+    (called.0 ∙ ap (λ (x : List ℕ). x ⊕ (gathered l (page_at l a.chips.now) a.j (others_inside l a.m r)).bytes)
+    (c.before.before.before.before.before.before.add.ensures ∙ ap (λ (x : List ℕ). begun a.fresh a.work.now ⊕ x) (c.before.before.before.before.before.before.before.slot-data.ensures.0 ∙ ap (slot_at l a.slots.now) c.before.before.before.before.before.before.before.before.slot_at.ensures.0)))
     (called.1 ∙ sym (zero-add _)) refl (omega (arith, called.2))
 
 pub through-partial-spec : {M : Type 1} → statement M

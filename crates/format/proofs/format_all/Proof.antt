@@ -4,7 +4,7 @@ use mathlib.Core.Path.{◌∙◌}
 use mathlib.Core.List.{[]}
 use borrow.Author.Rules.{rules}
 use Rattle.layout.specs.Layout.{layout_of}
-use Rattle.rules.specs.Format.{formatSteps}
+use Rattle.rules.specs.Format.{format_steps}
 use Rattle.steps.specs.Allowance.{images}
 use Rattle.steps.proofs.Allowances.{ran_append}
 use Rattle.format.proofs.format_all.Statement.{statement}
@@ -15,7 +15,7 @@ store-collection-requires c κs =
     (record { limited = c.before.before.before.before.before.before.before.before.before.before.before.requires.1.limited; long = c.before.before.before.empty-records.auto.0 ∙ c.before.before.before.before.before.before.before.before.before.before.before.requires.1.long }, omega arith, omega arith, (c.before.before.before.empty-records.ensures [] []).sane)
 
 returns : tie.Need-returns
-unfolding formatSteps
+unfolding format_steps
 returns c =
     let g = c.before.before.before.before.before.before.before.before.before.before.before.before.before.before.args.g in
     let l = layout_of g in

@@ -2,8 +2,8 @@
 use mathlib.Core.Path.{sym}
 use borrow.Author.Rules.{rules}
 use Rattle.layout.specs.Layout.{layout_of}
-use Rattle.layout.specs.Record.{recordAt}
-use Rattle.names.proofs.Readings.{stamp-beyond, stamp-test}
+use Rattle.layout.specs.Record.{record_at}
+use Rattle.names.proofs.Readings.{stamp_beyond, stamp_test}
 use Rattle.names.proofs.named_by_stamp.Statement.{statement}
 use Rattle.names.proofs.named_by_stamp.Tie as tie
 
@@ -11,14 +11,14 @@ returns : tie.Need-returns
 returns c x e =
     let a = c.before.before.args in
     let l = layout_of a.g in
-    sym (stamp-beyond l (recordAt l a.records.now) x a.c a.p a.t e c.if1.true)
+    sym (stamp_beyond l (record_at l a.records.now) x a.c a.p a.t e c.if1.true)
 
 returns-2 : tie.Need-returns-2
 returns-2 c x e =
     let o = c.before.before.before.before.before.before in
     let a = o.before.before.before.args in
     let l = layout_of a.g in
-    stamp-test l (recordAt l a.records.now) x a.c a.p a.t e o.stripe-pages.result o.before.if1.false o.stripe-pages.ensures
+    stamp_test l (record_at l a.records.now) x a.c a.p a.t e o.stripe-pages.result o.before.if1.false o.stripe-pages.ensures
 
 pub named-by-stamp-spec : {M : Type 1} → statement M
 named-by-stamp-spec = tie.close (tie.spec returns (λ c κs. search rules) returns-2)

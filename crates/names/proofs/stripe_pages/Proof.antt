@@ -3,8 +3,8 @@ use mathlib.Core.Path.{sym, ◌∙◌}
 use mathlib.Core.Logic.{◌≢◌}
 use borrow.Author.Rules.{rules}
 use Rattle.layout.specs.Layout.{layout_of, none}
-use Rattle.layout.specs.Rotation.{parityChip}
-use Rattle.names.proofs.Readings.{parity-pages, member-pages}
+use Rattle.layout.specs.Rotation.{parity_chip}
+use Rattle.names.proofs.Readings.{parity_pages, member_pages}
 use Rattle.names.proofs.stripe_pages.Statement.{statement}
 use Rattle.names.proofs.stripe_pages.Tie as tie
 
@@ -13,10 +13,10 @@ unfolding none
 returns c =
     let s = c.before.before.before.before in
     let chip = c.before.if1.true ∙ c.before.before.parity-chip.ensures.0 in
-    rw c.number_in.ensures.0 (parity-pages (layout_of s.args.g) s.args.j _ s.args.c chip)
+    rw c.number_in.ensures.0 (parity_pages (layout_of s.args.g) s.args.j _ s.args.c chip)
 
 -- the chip is not the parity's
-elsewhere : (c : tie.Else1) → let a = c.before.before.before.args in a.c ≢ parityChip (layout_of a.g) a.j
+elsewhere : (c : tie.Else1) → let a = c.before.before.before.args in a.c ≢ parity_chip (layout_of a.g) a.j
 elsewhere c q = c.if1.false (q ∙ sym c.before.parity-chip.ensures.0)
 
 returns-2 : tie.Need-returns-2
@@ -24,7 +24,7 @@ returns-2 c =
     let s = c.before.before.before.before.before.before in
     let m = c.before.before.member-on in
     rw (c.before.number-in2.ensures.0, c.number-in3.ensures.0)
-    (member-pages (layout_of s.args.g) s.args.j _ s.args.c m.result (elsewhere c.before.before.before) (m.ensures.0 s.args.j c.before.before.before.before.parity-chip.ensures.0) m.ensures.2)
+    (member_pages (layout_of s.args.g) s.args.j _ s.args.c m.result (elsewhere c.before.before.before) (m.ensures.0 s.args.j c.before.before.before.before.parity-chip.ensures.0) m.ensures.2)
 
 pub stripe-pages-spec : {M : Type 1} → statement M
 stripe-pages-spec =

@@ -7,9 +7,9 @@ use Rattle.layout.specs.Layout.{layout_of, none}
 use Rattle.layout.proofs.Limits.{Within, within}
 use Rattle.steps.specs.Allowance.{images}
 use Rattle.steps.proofs.Allowances.{ran_append}
-use Rattle.codec.specs.Views.{recordFrom}
+use Rattle.codec.specs.Views.{record_from}
 use Rattle.fetch.proofs.Others.{record_is}
-use Rattle.parity.proofs.Committing.{commit-list}
+use Rattle.parity.proofs.Committing.{commit_list}
 use Rattle.parity.proofs.commit_at.Statement.{statement}
 use Rattle.parity.proofs.commit_at.Tie as tie
 
@@ -41,9 +41,9 @@ program-requires c κs =
       s.pre.0,
       c.before.parity-chip.ensures.1,
       s.pre.5,
-      b.new-parity.auto.0 ∙ s.pre.3,
-      record { kind = omega arith; member = omega arith; stripe = omega (arith, s.pre.4, (limits s).stripes-high); copied = omega arith },
-      omega (arith, b.new-parity.ensures.2),
+      b.new_parity_lem.auto.0 ∙ s.pre.3,
+      record { kind = omega arith; member = omega arith; stripe = omega (arith, s.pre.4, (limits s).stripes_high); copied = omega arith },
+      omega (arith, b.new_parity_lem.ensures.2),
       s.pre.6,
     )
 
@@ -51,7 +51,7 @@ committed-requires : tie.Need-committed-requires
 unfolding none
 committed-requires c κs =
     let e = entry (made c.before.before.before) in
-    (e.record-at.ensures.1, omega (arith, (start e).pre.5, (limits (start e)).pages-numbered))
+    (e.record-at.ensures.1, omega (arith, (start e).pre.5, (limits (start e)).pages_numbered))
 
 store-record-requires : tie.Need-store-record-requires
 store-record-requires c κs =
@@ -72,7 +72,7 @@ returns c =
     let x = a.chips.now in
     let y = a.records.now in
     let z = a.slots.now in
-    rw (commit-list a.g a.j a.q x y z e.record-at.result (record_is a.g y a.j e.record-at.ensures (start e).pre.7) (recordFrom l n.committed.result) chip.parity-chip.result b.new-parity.result b.new-parity.last.0 (n.committed.ensures.0 a.g) chip.parity-chip.ensures.0 b.new-parity.ensures.0 b.new-parity.ensures.1)
+    rw (commit_list a.g a.j a.q x y z e.record-at.result (record_is a.g y a.j e.record-at.ensures (start e).pre.7) (record_from l n.committed.result) chip.parity-chip.result b.new_parity_lem.result b.new_parity_lem.last.0 (n.committed.ensures.0 a.g) chip.parity-chip.ensures.0 b.new_parity_lem.ensures.0 b.new_parity_lem.ensures.1)
     (ran_append l _ _ _ _ _ (images x y z) (images p.program.new.0 y z) _ (p.program.ensures y z)
     (c.before.before.store-record.ensures p.program.new.0 z))
 

@@ -1,28 +1,28 @@
 -- The slot is copied; into it come the pages outside the bitmap, or the old parity and then the old pages inside.
 use mathlib.Core.Path.{◌≡◌, refl, sym, ap, ◌∙◌}
 use borrow.Author.Rules.{rules}
-use Rattle.layout.specs.Layout.{layout_of, noChip}
+use Rattle.layout.specs.Layout.{layout_of, no_chip}
 use Rattle.steps.specs.Allowance.{images}
 use Rattle.rules.specs.declared.Role.TheVariants.{Parity}
-use Rattle.fetch.proofs.Pages.{fetched-from}
-use Rattle.layout.specs.Images.{slotAt}
+use Rattle.fetch.proofs.Pages.{fetched_from}
+use Rattle.layout.specs.Images.{slot_at}
 use Rattle.layout.proofs.Limits.{within}
-use Rattle.rules.specs.Costs.{setBits, mostInPartial}
-use Rattle.rules.proofs.Soundness.RecordChecks.{record-sound}
-use Rattle.rules.proofs.Data.Contents.{slot-bits}
-use Rattle.codec.specs.Views.{recordFrom}
-use Rattle.parity.proofs.Parities.{parity-outside, parity-inside}
+use Rattle.rules.specs.Costs.{set_bits, most_in_partial}
+use Rattle.rules.proofs.Soundness.RecordChecks.{record_sound_lem}
+use Rattle.rules.proofs.Data.Contents.{slot_bits}
+use Rattle.codec.specs.Views.{record_from}
+use Rattle.parity.proofs.Parities.{parity_outside, parity_inside}
 use Rattle.parity.proofs.new_parity.Statement.{statement}
 use Rattle.parity.proofs.new_parity.Tie as tie
 
 slot-data-requires : tie.Need-slot-data-requires
-unfolding recordFrom
+unfolding record_from
 slot-data-requires c κs =
     let s = c.before.before.before.before.before in
     let l = layout_of s.args.g in
-    let r = recordFrom l s.args.e in
-    let sound = record-sound l r s.requires.6 in
-    (s.requires.2, sound.slot (slot-bits l r sound s.requires.7))
+    let r = record_from l s.args.e in
+    let sound = record_sound_lem l r s.requires.6 in
+    (s.requires.2, sound.slot (slot_bits l r sound s.requires.7))
 
 -- what the function was called with, before its test
 abbrev start : tie.After-most-in-partial → tie.Start
@@ -31,20 +31,20 @@ start c = c.before.before.before.before.before.before.before.before.before.befor
 -- the slot is what stands in the work page
 first : (c : tie.After-most-in-partial)
     → let a = (start c).args in
-    c.before.before.before.before.copy.new.0 ≡ slotAt (layout_of a.g) a.slots.now (recordFrom (layout_of a.g) a.e).slot
-unfolding recordFrom
+    c.before.before.before.before.copy.new.0 ≡ slot_at (layout_of a.g) a.slots.now (record_from (layout_of a.g) a.e).slot
+unfolding record_from
 first c = c.before.before.before.before.copy.ensures ∙ c.before.before.before.before.before.slot-data.ensures.0
 
 -- the test is that of the record's bits
 told : (c : tie.After-most-in-partial)
     → let a = (start c).args in
     let l = layout_of a.g in
-    mostInPartial l.N (setBits l (recordFrom l a.e)) ≡ c.most-in-partial.result
-unfolding recordFrom
+    most_in_partial l.N (set_bits l (record_from l a.e)) ≡ c.most-in-partial.result
+unfolding record_from
 told c =
     let a = (start c).args in
     let l = layout_of a.g in
-    sym (c.most-in-partial.ensures ∙ ap (mostInPartial l.N) (c.before.set-bits.ensures.0 (recordFrom l a.e) refl))
+    sym (c.most-in-partial.ensures ∙ ap (most_in_partial l.N) (c.before.set-bits.ensures.0 (record_from l a.e) refl))
 
 returns : tie.Need-returns
 returns c =
@@ -52,7 +52,7 @@ returns c =
     let s = start t in
     let a = s.args in
     let called = c.before.before.gather-members.ensures in
-    parity-outside a.g (within (layout_of a.g) s.pre.0.limited) a.chips.now a.slots.now a.j a.e (first t) (told t ∙ c.before.before.before.before.if1.true) called.0 called.1
+    parity_outside a.g (within (layout_of a.g) s.pre.0.limited) a.chips.now a.slots.now a.j a.e (first t) (told t ∙ c.before.before.before.before.if1.true) called.0 called.1
 
 returns-2 : tie.Need-returns-2
 returns-2 c =
@@ -61,8 +61,8 @@ returns-2 c =
     let s = start t in
     let a = s.args in
     let called = c.before.before.before.gather-members2.ensures in
-    parity-inside a.g (within (layout_of a.g) s.pre.0.limited) a.chips.now a.slots.now a.j a.e (first t) (told t ∙ k.before.before.if1.false)
-    (fetched-from (layout_of a.g) (images a.chips.now a.records.now a.slots.now) noChip a.j Parity s.pre.5 k.fetch.ensures) called.0 called.1
+    parity_inside a.g (within (layout_of a.g) s.pre.0.limited) a.chips.now a.slots.now a.j a.e (first t) (told t ∙ k.before.before.if1.false)
+    (fetched_from (layout_of a.g) (images a.chips.now a.records.now a.slots.now) no_chip a.j Parity s.pre.5 k.fetch.ensures) called.0 called.1
 
 gather-members-requires : tie.Need-gather-members-requires
 gather-members-requires c κs =
@@ -90,7 +90,7 @@ new-parity-spec =
     slot-data-requires
     (λ c κs. search rules)
     (λ c κs. search rules)
-    (λ c κs. let s = c.before.before.before.before.before.before.before.before.before.before in (within (layout_of s.args.g) s.requires.0.limited).members-high)
+    (λ c κs. let s = c.before.before.before.before.before.before.before.before.before.before in (within (layout_of s.args.g) s.requires.0.limited).members_high)
     gather-members-requires
     (λ c. search rules)
     returns

@@ -6,15 +6,15 @@ use mathlib.Core.Logic.{⊎_elim}
 use mathlib.Core.List.{List}
 use lib.ListN.{length}
 use borrow.Author.Rules.{rules}
-use Rattle.bytes.specs.Xor.{◌⊕◌}
-use Rattle.layout.specs.Layout.{layout_of, noChip}
+use Rattle.octets.specs.Xor.{◌⊕◌}
+use Rattle.layout.specs.Layout.{layout_of, no_chip}
 use Rattle.steps.specs.Allowance.{images}
 use Rattle.rules.specs.declared.Role.TheVariants.{Current}
-use Rattle.fetch.proofs.Pages.{fetched-from}
+use Rattle.fetch.proofs.Pages.{fetched_from}
 use Rattle.layout.proofs.Limits.{within}
-use Rattle.rules.proofs.Soundness.RecordChecks.{record-sound}
-use Rattle.codec.specs.Views.{recordFrom}
-use Rattle.partial.proofs.Partials.{IsPartial, without-slot, without-bit, with-bit}
+use Rattle.rules.proofs.Soundness.RecordChecks.{record_sound_lem}
+use Rattle.codec.specs.Views.{record_from}
+use Rattle.partial.proofs.Partials.{IsPartial, without_slot, without_bit, with_bit}
 use Rattle.partial.proofs.new_partial.Statement.{statement}
 use Rattle.partial.proofs.new_partial.Tie as tie
 
@@ -29,20 +29,20 @@ start c = c.before.before.before.before.before.before.before.before.before.befor
 returns : tie.Need-returns
 returns c =
     let a = c.before.before.before.before.before.before.before.before.before.before.before.args in
-    without-slot a.g a.chips.now a.slots.now a.j a.m a.bytes.now a.e c.before.before.before.before.if1.true c.before.before.copy.ensures
+    without_slot a.g a.chips.now a.slots.now a.j a.m a.bytes.now a.e c.before.before.before.before.if1.true c.before.before.copy.ensures
 
 slot-data-requires : tie.Need-slot-data-requires
-unfolding recordFrom
+unfolding record_from
 slot-data-requires c κs =
     let s = c.before.before.before.before.before.before.before.before in
     let l = layout_of s.args.g in
-    let sound = record-sound l (recordFrom l s.args.e) s.requires.8 in
-    (s.requires.2, sound.slot (λ z. c.before.if1.false (sound.no-slot z)))
+    let sound = record_sound_lem l (record_from l s.args.e) s.requires.8 in
+    (s.requires.2, sound.slot (λ z. c.before.if1.false (sound.no_slot_lem z)))
 
 bit-of-requires : tie.Need-bit-of-requires
 bit-of-requires c κs =
     let s = c.before.before.before.before.before.before.before.before.before.before.before.before in
-    omega (arith, s.requires.6, (within (layout_of s.args.g) s.requires.0.limited).members-high)
+    omega (arith, s.requires.6, (within (layout_of s.args.g) s.requires.0.limited).members_high)
 
 fetch-requires : tie.Need-fetch-requires
 fetch-requires c κs =
@@ -64,12 +64,12 @@ joined c =
     ⊎_elim
     (λ w. (
       rw w.5 (w.2.kept.0 ∙ first.copy2.auto.0 ∙ s.pre.3),
-      rw (w.5, w.6) (with-bit a.g a.chips.now a.slots.now a.j a.m a.bytes.now a.e has slot (bit ∙ w.0.taken)
-          (fetched-from (layout_of a.g) (images a.chips.now a.records.now a.slots.now) noChip a.j (Current a.m) s.pre.7 w.2.ensures)),
+      rw (w.5, w.6) (with_bit a.g a.chips.now a.slots.now a.j a.m a.bytes.now a.e has slot (bit ∙ w.0.taken)
+          (fetched_from (layout_of a.g) (images a.chips.now a.records.now a.slots.now) no_chip a.j (Current a.m) s.pre.7 w.2.ensures)),
     ))
     (λ w. (
       rw w.1 (first.copy2.auto.0 ∙ s.pre.3),
-      rw (w.1, w.2) (without-bit a.g a.chips.now a.slots.now a.j a.m a.bytes.now a.e has slot (bit ∙ w.0.left)),
+      rw (w.1, w.2) (without_bit a.g a.chips.now a.slots.now a.j a.m a.bytes.now a.e has slot (bit ∙ w.0.left)),
     ))
     c.if2.branch
 

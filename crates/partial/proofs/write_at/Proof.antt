@@ -9,7 +9,7 @@ use Rattle.steps.specs.Store.{program}
 use Rattle.steps.specs.Steps.{plain}
 use Rattle.steps.specs.Allowance.{images}
 use Rattle.steps.proofs.Allowances.{ran_then}
-use Rattle.rules.specs.Partial.{dataPage, slotSteps, writeAt}
+use Rattle.rules.specs.Partial.{data_page, slot_steps, write_at}
 use Rattle.partial.proofs.write_at.Statement.{statement}
 use Rattle.partial.proofs.write_at.Tie as tie
 
@@ -21,7 +21,7 @@ program-requires c κs =
       c.member-chip.ensures.1,
       s.requires.7,
       s.requires.6,
-      record { kind = omega arith; member = omega (arith, s.requires.5, w.members-high); stripe = omega (arith, s.requires.4, w.stripes-high); copied = omega arith },
+      record { kind = omega arith; member = omega (arith, s.requires.5, w.members_high); stripe = omega (arith, s.requires.4, w.stripes_high); copied = omega arith },
       omega arith,
       s.requires.9,
     )
@@ -45,7 +45,7 @@ store-partial-requires c κs =
     )
 
 returns : tie.Need-returns
-unfolding writeAt none
+unfolding write_at none
 returns c =
     let first = c.before.before.before.before.before.before.before.before.before.before.before.before.before in
     let chip = first.before.member-chip in
@@ -57,7 +57,7 @@ returns c =
     let x = first.program.new.0 in
     let rest = c.before.before.before.before.before.before.store-partial in
     rw (← chip.ensures.0)
-    (ran_then l a.p first.program.result rest.result (plain (program chip.result a.q (dataPage l a.j a.m xs)) ∷ []) (slotSteps l a.j a.m xs a.q)
+    (ran_then l a.p first.program.result rest.result (plain (program chip.result a.q (data_page l a.j a.m xs)) ∷ []) (slot_steps l a.j a.m xs a.q)
     (images a.chips.now r z) (images x r z) (images x rest.new.1.0 rest.new.1.1.0) (first.program.ensures r z) rest.ensures)
 
 pub write-at-spec : {M : Type 1} → statement M

@@ -2,12 +2,12 @@
 use mathlib.Core.Path.{sym, ◌∙◌}
 use borrow.Author.Rules.{rules}
 use borrow.Author.Tests.{eq-eqb, ne_eqb}
-use Rattle.rules.specs.Sound.{collectionSound}
+use Rattle.rules.specs.Sound.{collection_sound}
 use Rattle.records.proofs.collection_passes.Statement.{statement}
 use Rattle.records.proofs.collection_passes.Tie as tie
 
 returns : tie.Need-returns
-unfolding collectionSound
+unfolding collection_sound
 returns c =
     let told = c.before.before.before in
     let same = c.before.before.before.before.before.collection-at.ensures in
@@ -15,7 +15,7 @@ returns c =
     rw (ends, same.chip, same.victim, same.destination, eq-eqb _ 0 (sym same.phase ∙ told.if1.true))
 
 returns-2 : tie.Need-returns-2
-unfolding collectionSound
+unfolding collection_sound
 returns-2 c =
     let told = c.before.before.before.before.before in
     let same = c.before.before.before.before.before.before.before.collection-at.ensures in

@@ -4,14 +4,14 @@ use borrow.Author.Rules.{rules}
 use borrow.Author.Tests.{lt-ltb}
 use Rattle.layout.specs.Layout.{none}
 use Rattle.layout.specs.Record.{bit}
-use Rattle.rules.specs.Sound.{memberSound}
-use Rattle.codec.specs.Views.{recordFrom, sixOf}
+use Rattle.rules.specs.Sound.{member_sound}
+use Rattle.codec.specs.Views.{record_from, six_of}
 use Rattle.codec.proofs.Sizes.{bounded}
 use Rattle.records.proofs.member_passes.Statement.{statement}
 use Rattle.records.proofs.member_passes.Tie as tie
 
 returns : tie.Need-returns
-unfolding memberSound bit recordFrom sixOf none
+unfolding member_sound bit record_from six_of none
 returns c =
     let start = c.before.before.before.before in
     rw (c.bit-of.ensures, lt-ltb start.args.m 6 start.requires.1)

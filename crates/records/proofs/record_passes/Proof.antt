@@ -9,15 +9,15 @@ use borrow.Author.Rules.{rules}
 use borrow.Author.Tests.{eq-eqb, ne_eqb}
 use Rattle.ranges.specs.Look.{all_below}
 use Rattle.layout.specs.Layout.{layout_of, none}
-use Rattle.rules.specs.Sound.{memberSound, slotSound, recordSound}
-use Rattle.codec.specs.Views.{recordFrom}
+use Rattle.rules.specs.Sound.{member_sound, slot_sound, record_sound}
+use Rattle.codec.specs.Views.{record_from}
 use Rattle.codec.proofs.Sizes.{bounded}
 use Rattle.records.proofs.record_passes.Statement.{statement}
 use Rattle.records.proofs.record_passes.Tie as tie
 
 abbrev invariant-loop : tie.invariant-loop
 invariant-loop g e n most pages members₀ m₀ members m =
-    (m ≤ 6) × (members ≡ all_below m (memberSound (layout_of g) (recordFrom (layout_of g) e)))
+    (m ≤ 6) × (members ≡ all_below m (member_sound (layout_of g) (record_from (layout_of g) e)))
 
 abbrev decreases-loop : tie.decreases-loop
 decreases-loop g e n most pages members₀ m₀ members m = 6 - m
@@ -38,14 +38,14 @@ shl-result c =
 -- the test of the slot, by the branch's test
 slot_is : (c : tie.Joined1 invariant-loop decreases-loop)
     → let a = c.before.before.before.before.before.args in
-    c.if1.slot ≡ slotSound (layout_of a.g) (recordFrom (layout_of a.g) a.e)
-unfolding recordFrom
+    c.if1.slot ≡ slot_sound (layout_of a.g) (record_from (layout_of a.g) a.e)
+unfolding record_from
 slot_is c =
     let bits = c.before.before.before.before.before.args.e.bitmap in
     ⊎_elim (λ w. rw (eq-eqb bits 0 w.0.taken) w.2) (λ w. rw (ne_eqb bits 0 w.0.left) w.2) c.if1.branch
 
 returns : tie.Need-returns invariant-loop decreases-loop
-unfolding recordSound recordFrom none
+unfolding record_sound record_from none
 returns c =
     let start = c.before.before.before.before.before.before.before.before in
     let loop = c.before.before.before.before.before.before.loop in

@@ -8,71 +8,71 @@ use mathlib.Core.Bool.{true}
 use mathlib.Core.List.{List}
 use lib.ListN.{length}
 use lib.Pow.{pow_pos}
-use Rattle.bytes.specs.Xor.{◌⊕◌}
-use Rattle.ranges.proofs.Looks.{by-test, both}
-use Rattle.bytes.proofs.Xors.{length-xors, length-xors-left}
+use Rattle.octets.specs.Xor.{◌⊕◌}
+use Rattle.ranges.proofs.Looks.{by_test, both}
+use Rattle.octets.proofs.Xors.{length_xors, length_xors_left}
 use Rattle.layout.specs.Layout.{Layout, none, pages}
-use Rattle.layout.specs.Rotation.{parityChip, memberChip}
-use Rattle.layout.specs.Page.{Page, pageAt}
-use Rattle.layout.specs.Record.{Record, bit, hasSlot, recordAt}
-use Rattle.layout.specs.Images.{Images, slotAt}
+use Rattle.layout.specs.Rotation.{parity_chip, member_chip}
+use Rattle.layout.specs.Page.{Page, page_at}
+use Rattle.layout.specs.Record.{Record, bit, has_slot, record_at}
+use Rattle.layout.specs.Images.{Images, slot_at}
 use Rattle.layout.proofs.Limits.{Within}
-use Rattle.layout.proofs.Bits.{set-bound, set-nonzero}
-use Rattle.layout.proofs.Rotations.{parity-chip-fits, member-chip-fits}
-use Rattle.layout.proofs.Records.{bits-of-none, SixMembers}
-use Rattle.layout.proofs.Pages.{page-number}
-use Rattle.rules.specs.Names.{mainNumber, sideNumber}
-use Rattle.rules.specs.Costs.{setBits, mostInPartial}
+use Rattle.layout.proofs.Bits.{set_bound, set_nonzero}
+use Rattle.layout.proofs.Rotations.{parity_chip_fits, member_chip_fits}
+use Rattle.layout.proofs.Records.{bits_of_none, SixMembers}
+use Rattle.layout.proofs.Pages.{page_number_lem}
+use Rattle.rules.specs.Names.{main_number, side_number}
+use Rattle.rules.specs.Costs.{set_bits, most_in_partial}
 use Rattle.rules.specs.Parity.{committed}
 use Rattle.rules.specs.Partial.{written}
-use Rattle.rules.proofs.Soundness.Statements.{Numbered, MemberSound, RecordSound, Stamped, Sound, sound-member}
-use Rattle.rules.proofs.Stores.Names.{main-member, side-member, main-parity, side-parity, by-chip}
-use Rattle.rules.proofs.Stores.Stays.{stays_same, member-same}
-use Rattle.rules.proofs.Data.Contents.{numbered-none, length-bytes-most, length-gathered, pages-whole, slot_whole, slot-bits}
-use Rattle.rules.proofs.Data.Parity.{written-bit, written-bit-other, written-current, written-current-other, written-old, written-old-other, numbered-outside, numbered-under-parity, numbered-old}
-use Rattle.rules.specs.Fetch.{itself, gathered, underParity}
-use Rattle.rules.proofs.Data.Feeds.{currentOutside, oldInside, parityBytes, partialBytes}
+use Rattle.rules.proofs.Soundness.Statements.{Numbered, MemberSound, RecordSound, Stamped, Sound, sound_member}
+use Rattle.rules.proofs.Stores.Names.{main_member, side_member, main_parity, side_parity, by_chip}
+use Rattle.rules.proofs.Stores.Stays.{stays_same, member_same}
+use Rattle.rules.proofs.Data.Contents.{numbered_none, length_bytes_most, length_gathered, pages_whole, slot_whole, slot_bits}
+use Rattle.rules.proofs.Data.Parity.{written_bit, written_bit_other, written_current, written_current_other, written_old, written_old_other, numbered_outside, numbered_under_parity, numbered_old}
+use Rattle.rules.specs.Fetch.{itself, gathered, under_parity}
+use Rattle.rules.proofs.Data.Feeds.{current_outside, old_inside, parity_bytes, partial_bytes}
 
 module _ (l : Layout) where
   open l use {N, W, S, M}
 
   -- what is stored has no numbers beyond the six members either
-  pub committed-six : (p : ℕ) (r : Record) → SixMembers l r → SixMembers l (committed l p r)
+  pub committed_six : (p : ℕ) (r : Record) → SixMembers l r → SixMembers l (committed l p r)
   unfolding committed
-  committed-six p r six m h = ((six m h).0, refl)
+  committed_six p r six m h = ((six m h).0, refl)
 
-  pub written-six : (m p i : ℕ) (r : Record) → m < 6 → SixMembers l r → SixMembers l (written l m p i r)
-  written-six m p i r h six k b =
+  pub written_six : (m p i : ℕ) (r : Record) → m < 6 → SixMembers l r → SixMembers l (written l m p i r)
+  written_six m p i r h six k b =
       let d : k ≢ m = omega arith in
-      (written-current-other l m p i r k d ∙ (six k b).0, written-old-other l m p i r k d ∙ (six k b).1)
+      (written_current_other l m p i r k d ∙ (six k b).0, written_old_other l m p i r k d ∙ (six k b).1)
 
-  written-parity : (m p i : ℕ) (r : Record) → (written l m p i r).parity ≡ r.parity
+  written_parity : (m p i : ℕ) (r : Record) → (written l m p i r).parity ≡ r.parity
   unfolding written
-  written-parity m p i r = refl
+  written_parity m p i r = refl
 
   module _ (w : Within l) (r : Record) (f : RecordSound l r) where
     -- ---- commit
 
     module _ (p : ℕ) (page : p < pages l) where
-      committed-member : (m : ℕ) → m < 6 → MemberSound l (committed l p r) m
+      committed_member : (m : ℕ) → m < 6 → MemberSound l (committed l p r) m
       unfolding committed
-      committed-member m h = record {
+      committed_member m h = record {
         current = (f.member m h).current;
-        old = numbered-none l;
+        old = numbered_none l;
         beyond = λ b. (((f.member m h).beyond b).0, refl);
-        old-under-bit = λ d. absurd (d refl);
-        current-under-bit = λ t. both (bit (committed l p r) m) t (bits-of-none (committed l p r) refl m);
-        parity-under-old = λ d. absurd (d refl);
-        parity-under-current = λ d t. page-number l w p page;
+        old_under_bit_lem = λ d. absurd (d refl);
+        current_under_bit_lem = λ t. both (bit (committed l p r) m) t (bits_of_none (committed l p r) refl m);
+        parity_under_old = λ d. absurd (d refl);
+        parity_under_current = λ d t. page_number_lem l w p page;
       }
 
-      pub committed-sound : RecordSound l (committed l p r)
+      pub committed_sound : RecordSound l (committed l p r)
       unfolding committed
-      committed-sound = record {
-        member = committed-member;
+      committed_sound = record {
+        member = committed_member;
         parity = λ d. page;
         bitmap = pow_pos N;
-        no-slot = λ e. refl;
+        no_slot_lem = λ e. refl;
         slot = λ d. absurd (d refl);
         rest = refl;
       }
@@ -80,38 +80,38 @@ module _ (l : Layout) where
     -- ---- write
 
     -- what the parity holds of a member needs a parity page
-    under-parity-needs : (m : ℕ) → m < N → underParity l r m ≢ none l → r.parity ≢ none l
-    unfolding underParity
-    under-parity-needs m h =
-        by-test (bit r m) (λ t. rw t (sound-member l w r f m h).parity-under-old) (λ t. rw t (λ d. (sound-member l w r f m h).parity-under-current d t))
+    under_parity_needs : (m : ℕ) → m < N → under_parity l r m ≢ none l → r.parity ≢ none l
+    unfolding under_parity
+    under_parity_needs m h =
+        by_test (bit r m) (λ t. rw t (sound_member l w r f m h).parity_under_old) (λ t. rw t (λ d. (sound_member l w r f m h).parity_under_current d t))
 
-    module _ (m p i : ℕ) (h : m < N) (page : p < pages l) (fresh : p ≢ underParity l r m) where
-      written-here : MemberSound l (written l m p i r) m
-      written-here = record {
-        current = rw (written-current l m p i r) (λ d. page);
-        old = rw (written-old l m p i r) (numbered-under-parity l w r f m h);
+    module _ (m p i : ℕ) (h : m < N) (page : p < pages l) (fresh : p ≢ under_parity l r m) where
+      written_here : MemberSound l (written l m p i r) m
+      written_here = record {
+        current = rw (written_current l m p i r) (λ d. page);
+        old = rw (written_old l m p i r) (numbered_under_parity l w r f m h);
         beyond = λ b. absurd (omega arith);
-        old-under-bit = λ d. written-bit l m p i r;
-        current-under-bit = λ t. rw (written-current l m p i r, written-old l m p i r) (page-number l w p page, fresh);
-        parity-under-old = rw (written-old l m p i r, written-parity m p i r) (under-parity-needs m h);
-        parity-under-current = λ d t. both (bit (written l m p i r) m) (written-bit l m p i r) t;
+        old_under_bit_lem = λ d. written_bit l m p i r;
+        current_under_bit_lem = λ t. rw (written_current l m p i r, written_old l m p i r) (page_number_lem l w p page, fresh);
+        parity_under_old = rw (written_old l m p i r, written_parity m p i r) (under_parity_needs m h);
+        parity_under_current = λ d t. both (bit (written l m p i r) m) (written_bit l m p i r) t;
       }
 
-      written-member : (k : ℕ) → k < 6 → MemberSound l (written l m p i r) k
-      written-member k b = elim (ℕ_discrete k m) [
-        | yes e ↦ rw e written-here
+      written_member : (k : ℕ) → k < 6 → MemberSound l (written l m p i r) k
+      written_member k b = elim (ℕ_discrete k m) [
+        | yes e ↦ rw e written_here
         | no d ↦
-            member-same l r (written l m p i r) k (written-bit-other l m p i r k d) (stays_same l f.parity (written-parity m p i r))
-            (written-current-other l m p i r k d) (written-old-other l m p i r k d) (f.member k b)
+            member_same l r (written l m p i r) k (written_bit_other l m p i r k d) (stays_same l f.parity (written_parity m p i r))
+            (written_current_other l m p i r k d) (written_old_other l m p i r k d) (f.member k b)
       ]
 
-      pub written-sound : i < M + 1 → RecordSound l (written l m p i r)
+      pub written_sound : i < M + 1 → RecordSound l (written l m p i r)
       unfolding written
-      written-sound place = record {
-        member = written-member;
+      written_sound place = record {
+        member = written_member;
         parity = f.parity;
-        bitmap = set-bound r.bitmap m N f.bitmap h;
-        no-slot = λ e. absurd (set-nonzero r.bitmap m e);
+        bitmap = set_bound r.bitmap m N f.bitmap h;
+        no_slot_lem = λ e. absurd (set_nonzero r.bitmap m e);
         slot = λ d. omega arith;
         rest = refl;
       }
@@ -123,97 +123,97 @@ module _ (l : Layout) where
   StampedBy y j number = (c : ℕ) → c < N + 1 → number c ≢ none l → Stamped l (y c) c j (number c)
 
   module _ (y : ℕ → ℕ → Page) (j : ℕ) (r : Record)
-      (main : StampedBy y j (λ c. mainNumber l c j r)) (side : StampedBy y j (λ c. sideNumber l c j r)) where
+      (main : StampedBy y j (λ c. main_number l c j r)) (side : StampedBy y j (λ c. side_number l c j r)) where
     abbrev Good : ℕ → ℕ → Type 0
     Good c p = p ≢ none l → Stamped l (y c) c j p
 
-    good-parity : Good (parityChip l j) r.parity
-    good-parity = rw (main-parity l j r) at (main (parityChip l j) (parity-chip-fits l j))
+    good_parity : Good (parity_chip l j) r.parity
+    good_parity = rw (main_parity l j r) at (main (parity_chip l j) (parity_chip_fits l j))
 
-    good-current : (m : ℕ) → m < N → Good (memberChip l j m) (r.current m)
-    good-current m h = rw (main-member l j m r) at (main (memberChip l j m) (member-chip-fits l j m h))
+    good_current : (m : ℕ) → m < N → Good (member_chip l j m) (r.current m)
+    good_current m h = rw (main_member l j m r) at (main (member_chip l j m) (member_chip_fits l j m h))
 
-    good_old : (m : ℕ) → m < N → Good (memberChip l j m) (r.old m)
-    good_old m h = rw (side-member l j m r) at (side (memberChip l j m) (member-chip-fits l j m h))
+    good_old : (m : ℕ) → m < N → Good (member_chip l j m) (r.old m)
+    good_old m h = rw (side_member l j m r) at (side (member_chip l j m) (member_chip_fits l j m h))
 
-    good-under-parity : (m : ℕ) → m < N → Good (memberChip l j m) (underParity l r m)
-    unfolding underParity
-    good-under-parity m h = by-test (bit r m) (λ t. rw t (good_old m h)) (λ t. rw t (good-current m h))
+    good_under_parity : (m : ℕ) → m < N → Good (member_chip l j m) (under_parity l r m)
+    unfolding under_parity
+    good_under_parity m h = by_test (bit r m) (λ t. rw t (good_old m h)) (λ t. rw t (good_current m h))
 
     -- both numbers of another record, chip by chip
-    stamped-main : (r' : Record) → Good (parityChip l j) r'.parity → ((m : ℕ) → m < N → Good (memberChip l j m) (r'.current m))
-        → StampedBy y j (λ c. mainNumber l c j r')
-    stamped-main r' parity member c chip =
-        by-chip l c j chip (λ e. rw (e, main-parity l j r') parity) (λ m h e. rw (e, main-member l j m r') (member m h))
+    stamped_main : (r' : Record) → Good (parity_chip l j) r'.parity → ((m : ℕ) → m < N → Good (member_chip l j m) (r'.current m))
+        → StampedBy y j (λ c. main_number l c j r')
+    stamped_main r' parity member c chip =
+        by_chip l c j chip (λ e. rw (e, main_parity l j r') parity) (λ m h e. rw (e, main_member l j m r') (member m h))
 
-    stamped-side : (r' : Record) → ((m : ℕ) → m < N → Good (memberChip l j m) (r'.old m)) → StampedBy y j (λ c. sideNumber l c j r')
-    stamped-side r' member c chip =
-        by-chip l c j chip (λ e. rw (e, side-parity l j r') (λ d. absurd (d refl))) (λ m h e. rw (e, side-member l j m r') (member m h))
+    stamped_side : (r' : Record) → ((m : ℕ) → m < N → Good (member_chip l j m) (r'.old m)) → StampedBy y j (λ c. side_number l c j r')
+    stamped_side r' member c chip =
+        by_chip l c j chip (λ e. rw (e, side_parity l j r') (λ d. absurd (d refl))) (λ m h e. rw (e, side_member l j m r') (member m h))
 
-    pub committed-main : (p : ℕ) → Stamped l (y (parityChip l j)) (parityChip l j) j p → StampedBy y j (λ c. mainNumber l c j (committed l p r))
+    pub committed_main : (p : ℕ) → Stamped l (y (parity_chip l j)) (parity_chip l j) j p → StampedBy y j (λ c. main_number l c j (committed l p r))
     unfolding committed
-    committed-main p new = stamped-main (committed l p r) (λ d. new) good-current
+    committed_main p new = stamped_main (committed l p r) (λ d. new) good_current
 
-    pub committed-side : (p : ℕ) → StampedBy y j (λ c. sideNumber l c j (committed l p r))
+    pub committed_side : (p : ℕ) → StampedBy y j (λ c. side_number l c j (committed l p r))
     unfolding committed
-    committed-side p = stamped-side (committed l p r) (λ m h d. absurd (d refl))
+    committed_side p = stamped_side (committed l p r) (λ m h d. absurd (d refl))
 
     module _ (m p i : ℕ) where
-      pub written-main : Stamped l (y (memberChip l j m)) (memberChip l j m) j p → StampedBy y j (λ c. mainNumber l c j (written l m p i r))
-      written-main new = stamped-main (written l m p i r) (rw (written-parity m p i r) good-parity) λ k h. elim (ℕ_discrete k m) [
-        | yes e ↦ rw (e, written-current l m p i r) (λ d. new)
-        | no d ↦ rw (written-current-other l m p i r k d) (good-current k h)
+      pub written_main : Stamped l (y (member_chip l j m)) (member_chip l j m) j p → StampedBy y j (λ c. main_number l c j (written l m p i r))
+      written_main new = stamped_main (written l m p i r) (rw (written_parity m p i r) good_parity) λ k h. elim (ℕ_discrete k m) [
+        | yes e ↦ rw (e, written_current l m p i r) (λ d. new)
+        | no d ↦ rw (written_current_other l m p i r k d) (good_current k h)
       ]
 
-      pub written-side : StampedBy y j (λ c. sideNumber l c j (written l m p i r))
-      written-side = stamped-side (written l m p i r) λ k h. elim (ℕ_discrete k m) [
-        | yes e ↦ rw (e, written-old l m p i r) (good-under-parity m (rw e at h))
-        | no d ↦ rw (written-old-other l m p i r k d) (good_old k h)
+      pub written_side : StampedBy y j (λ c. side_number l c j (written l m p i r))
+      written_side = stamped_side (written l m p i r) λ k h. elim (ℕ_discrete k m) [
+        | yes e ↦ rw (e, written_old l m p i r) (good_under_parity m (rw e at h))
+        | no d ↦ rw (written_old_other l m p i r k d) (good_old k h)
       ]
 
   -- ---- the bytes of a new parity and of a new partial parity
 
   module _ (w : Within l) (s : Images) (j : ℕ) (f : Sound l s) (fits : j < S) where
     abbrev r : Record
-    r = recordAt l s.records j
+    r = record_at l s.records j
 
     abbrev y : ℕ → ℕ → Page
-    y = pageAt l s.chips
+    y = page_at l s.chips
 
     sound : RecordSound l r
     sound = f.stripes.stripe j fits
 
-    length-slot : hasSlot r ≡ true → length (slotAt l s.slots r.slot) ≡ W
-    length-slot t = slot_whole l s f.slots r.slot (omega (arith, sound.slot (slot-bits l r sound t)))
+    length_slot : has_slot r ≡ true → length (slot_at l s.slots r.slot) ≡ W
+    length_slot t = slot_whole l s f.slots r.slot (omega (arith, sound.slot (slot_bits l r sound t)))
 
     short : (g : ℕ → ℕ) → ((m : ℕ) → m < N → Numbered l (g m)) → length (gathered l y j g).bytes ≤ W
-    short = length-gathered l y j (pages-whole l s f.chips)
+    short = length_gathered l y j (pages_whole l s f.chips)
 
     -- both are W bytes long
-    pub new-parity-length : hasSlot r ≡ true → length (parityBytes l y (slotAt l s.slots) j r) ≡ W
-    unfolding parityBytes
-    new-parity-length t =
-        let x = slotAt l s.slots r.slot in
-        let parity = (itself l y (parityChip l j) r.parity).bytes in
-        let old = (gathered l y j (oldInside l r)).bytes in
-        by-test (mostInPartial l.N (setBits l r))
-        (λ e. rw e (length-xors-left x (gathered l y j (currentOutside l r)).bytes (omega (arith, length-slot t, short (currentOutside l r) (numbered-outside l w r sound))) ∙ length-slot t))
+    pub new_parity_length : has_slot r ≡ true → length (parity_bytes l y (slot_at l s.slots) j r) ≡ W
+    unfolding parity_bytes
+    new_parity_length t =
+        let x = slot_at l s.slots r.slot in
+        let parity = (itself l y (parity_chip l j) r.parity).bytes in
+        let old = (gathered l y j (old_inside l r)).bytes in
+        by_test (most_in_partial l.N (set_bits l r))
+        (λ e. rw e (length_xors_left x (gathered l y j (current_outside l r)).bytes (omega (arith, length_slot t, short (current_outside l r) (numbered_outside l w r sound))) ∙ length_slot t))
         (λ e. rw e
-        (length-xors-left x (parity ⊕ old)
-        (omega (arith, length-slot t, length-xors parity old, short (oldInside l r) (numbered-old l w r sound), length-bytes-most l y (pages-whole l s f.chips) (parityChip l j) r.parity (parity-chip-fits l j) sound.parity))
-        ∙ length-slot t))
+        (length_xors_left x (parity ⊕ old)
+        (omega (arith, length_slot t, length_xors parity old, short (old_inside l r) (numbered_old l w r sound), length_bytes_most l y (pages_whole l s f.chips) (parity_chip l j) r.parity (parity_chip_fits l j) sound.parity))
+        ∙ length_slot t))
 
-  pub new-partial-length : Within l → (s : Images) (j m : ℕ) (xs : List ℕ) → Sound l s → j < S → m < N → length xs ≡ W
-      → length (partialBytes l (pageAt l s.chips) (slotAt l s.slots) j m xs (recordAt l s.records j)) ≡ W
-  unfolding partialBytes
-  new-partial-length w s j m xs f fits h long =
-      let r = recordAt l s.records j in
-      let x = slotAt l s.slots r.slot in
-      let page = (itself l (pageAt l s.chips) (memberChip l j m) (r.current m)).bytes in
+  pub new_partial_length : Within l → (s : Images) (j m : ℕ) (xs : List ℕ) → Sound l s → j < S → m < N → length xs ≡ W
+      → length (partial_bytes l (page_at l s.chips) (slot_at l s.slots) j m xs (record_at l s.records j)) ≡ W
+  unfolding partial_bytes
+  new_partial_length w s j m xs f fits h long =
+      let r = record_at l s.records j in
+      let x = slot_at l s.slots r.slot in
+      let page = (itself l (page_at l s.chips) (member_chip l j m) (r.current m)).bytes in
       let short =
-      length-bytes-most l (pageAt l s.chips) (pages-whole l s f.chips) (memberChip l j m) (r.current m) (member-chip-fits l j m h) (sound-member l w r (sound w s j f fits) m h).current in
-      by-test (hasSlot r)
-      (λ t. by-test (bit r m)
-      (λ b. rw (t, b) (omega (arith, length-xors (x ⊕ page) xs, length-xors x page, length-slot w s j f fits t, short, long)))
-      (λ b. rw (t, b) (omega (arith, length-xors x xs, length-slot w s j f fits t, long))))
+      length_bytes_most l (page_at l s.chips) (pages_whole l s f.chips) (member_chip l j m) (r.current m) (member_chip_fits l j m h) (sound_member l w r (sound w s j f fits) m h).current in
+      by_test (has_slot r)
+      (λ t. by_test (bit r m)
+      (λ b. rw (t, b) (omega (arith, length_xors (x ⊕ page) xs, length_xors x page, length_slot w s j f fits t, short, long)))
+      (λ b. rw (t, b) (omega (arith, length_xors x xs, length_slot w s j f fits t, long))))
       (λ t. rw t long)

@@ -4,27 +4,27 @@ use Prim.Native.Nat.{ℕ, zero, suc}
 use mathlib.Core.Path.{◌≡◌, refl}
 use mathlib.Core.List.{List, [], ◌∷◌, ◌++◌}
 use Rattle.ranges.proofs.Tests.{same_rows}
-use Rattle.bytes.specs.Number.{digits}
+use Rattle.octets.specs.Number.{digits}
 use Rattle.rules.specs.declared.Origin.{Origin}
 use Rattle.rules.specs.declared.Origin.TheVariants.{Direct, Partial, Full}
-use Rattle.rules.specs.Origins.{originNumber}
-use Rattle.rules.specs.Log.{logOrigin}
-use Rattle.rules.specs.Calls.{Outcome, addCall, findCall}
+use Rattle.rules.specs.Origins.{origin_number}
+use Rattle.rules.specs.Log.{log_origin}
+use Rattle.rules.specs.Calls.{Outcome, add_call, find_call}
 use Rattle.rules.proofs.Examples.Compute.{computes}
 use Rattle.rules.proofs.Examples.Rows.{bench, formatted, filled}
-use Rattle.rules.proofs.Examples.Tickets.{weighing, shownFind}
+use Rattle.rules.proofs.Examples.Tickets.{weighing, shown_find}
 
 -- bag 1 of lot 7 is added, to page 0 on chip 0; then, with that chip lost, the question for a bag, in a row with status, counts, gross and
 -- tare, and origin
 pub told : ℕ → List (List ℕ)
 told bag =
-    let o : Outcome = addCall bench formatted 255 (weighing 1 7 60140 140) 3 in
-    shownFind (findCall bench o.images 0 7 bag) ∷ []
+    let o : Outcome = add_call bench formatted 255 (weighing 1 7 60140 140) 3 in
+    shown_find (find_call bench o.images 0 7 bag) ∷ []
 
 -- its page is rebuilt through the partial parity, which is the page itself
-pub given-told : told 1 ≡ (0 ∷ 0 ∷ 0 ∷ 0 ∷ 60140 ∷ 140 ∷ 2 ∷ []) ∷ []
+pub given_told : told 1 ≡ (0 ∷ 0 ∷ 0 ∷ 0 ∷ 60140 ∷ 140 ∷ 2 ∷ []) ∷ []
 unfolding computes told
-given-told = same_rows _ _ refl
+given_told = same_rows _ _ refl
 
 -- another bag is not there: the last among page 0, rebuilt, and page 1, where the log ends and which was never written
 pub none_told : told 2 ≡ (0 ∷ 0 ∷ 0 ∷ 0 ∷ 2 ∷ []) ∷ []
@@ -49,12 +49,12 @@ got (suc (suc (suc (suc i)))) = Full
 -- how the questions for bags 1, 2 and 3 were got
 pub numbers : List ℕ
 numbers =
-    originNumber (logOrigin bench pages got 7 1)
-    ∷ originNumber (logOrigin bench pages got 7 2)
-    ∷ originNumber (logOrigin bench pages got 7 3)
+    origin_number (log_origin bench pages got 7 1)
+    ∷ origin_number (log_origin bench pages got 7 2)
+    ∷ origin_number (log_origin bench pages got 7 3)
     ∷ []
 
 -- bag 1 is given, and carries its page's; of bag 2, withdrawn, and of bag 3, which is not there, the last of pages 0 to 3
-pub numbers-told : numbers ≡ 1 ∷ 2 ∷ 2 ∷ []
+pub numbers_told : numbers ≡ 1 ∷ 2 ∷ 2 ∷ []
 unfolding computes pages got numbers
-numbers-told = refl
+numbers_told = refl

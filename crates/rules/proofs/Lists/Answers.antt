@@ -13,7 +13,7 @@ use Rattle.layout.specs.Layout.{Layout}
 use Rattle.layout.specs.Images.{Images}
 use Rattle.steps.specs.declared.Counts.{Counts}
 use Rattle.steps.specs.declared.Progress.{Progress}
-use Rattle.steps.specs.Steps.{Step, made, isCut}
+use Rattle.steps.specs.Steps.{Step, made, is_cut}
 use Rattle.steps.specs.Allowance.{started, after, applied, Ran}
 use Rattle.rules.specs.declared.Answer.{Answer}
 use Rattle.rules.specs.declared.Answer.TheVariants.{Cut, Done, Refused}
@@ -31,7 +31,7 @@ module _ (a most : ℕ) (xs : List Step) (short : length xs ≤ most) where
   made-enough : made (min a most) xs ≡ made a xs
   made-enough = by_order a most (λ h. rw (min-eq_left (le_of_lt h))) (λ h. rw (min-eq_right h, take_all most xs short, take_all a xs (omega arith)))
 
-  cut-enough : isCut (min a most) xs ≡ isCut a xs
+  cut-enough : is_cut (min a most) xs ≡ is_cut a xs
   cut-enough =
       by_order a most (λ h. rw (min-eq_left (le_of_lt h))) (λ h. rw (min-eq_right h, le-ltb most (length xs) short, le-ltb a (length xs) (omega arith)))
 

@@ -6,82 +6,82 @@ use mathlib.Core.Logic.{◌≢◌}
 use mathlib.Core.Bool.{true, false, not}
 use borrow.Author.Tests.{le-leb, lt-leb, not-true, not-false}
 use Rattle.ranges.specs.declared.Found.TheVariants.{At, Nothing}
-use Rattle.ranges.specs.Look.{countBelow, firstBelow, whenFound}
-use Rattle.ranges.proofs.Looks.{by-test, by_order, by-found, both, all-at, all-false, first-at, first_found, first-nothing}
+use Rattle.ranges.specs.Look.{count_below, first_below, when_found}
+use Rattle.ranges.proofs.Looks.{by_test, by_order, by_found, both, all_at, all_false, first_at, first_found, first_nothing}
 use Rattle.ranges.proofs.Tests.{and_both}
-use Rattle.ranges.proofs.Counts.{count-found, count-two}
-use Rattle.layout.specs.Layout.{Layout, pageIn}
+use Rattle.ranges.proofs.Counts.{count_found, count_two}
+use Rattle.layout.specs.Layout.{Layout, page_in}
 use Rattle.layout.specs.Page.{Page}
-use Rattle.rules.specs.Blocks.{cleanIn, usedIn, cleanBlock, fullBlock, lowestCleanBlock}
-use Rattle.rules.specs.Place.{openBlock, lowestCleanPage, place_of}
+use Rattle.rules.specs.Blocks.{clean_in, used_in, clean_block, full_block, lowest_clean_block}
+use Rattle.rules.specs.Place.{open_block, lowest_clean_page, place_of}
 
 module _ (l : Layout) (x : ℕ → Page) where
   open l use {K, B}
 
-  pub clean_at : (b i : ℕ) → cleanBlock l x b ≡ true → i < K → cleanIn l x b i ≡ true
-  unfolding cleanBlock
-  clean_at b i t place = all-at K (cleanIn l x b) t i place
+  pub clean_at : (b i : ℕ) → clean_block l x b ≡ true → i < K → clean_in l x b i ≡ true
+  unfolding clean_block
+  clean_at b i t place = all_at K (clean_in l x b) t i place
 
   -- a block that is begun is not wholly clean, and has a clean page
-  pub open-begun : (b : ℕ) → openBlock l x b ≡ true → cleanBlock l x b ≡ false
-  unfolding openBlock
-  open-begun b t = not-true (cleanBlock l x b) (and_both (not (cleanBlock l x b)) (not (fullBlock l x b)) t).0
+  pub open_begun : (b : ℕ) → open_block l x b ≡ true → clean_block l x b ≡ false
+  unfolding open_block
+  open_begun b t = not-true (clean_block l x b) (and_both (not (clean_block l x b)) (not (full_block l x b)) t).0
 
-  open-clean : (b : ℕ) → openBlock l x b ≡ true → (i : ℕ) × (i < K) × (cleanIn l x b i ≡ true)
-  unfolding openBlock fullBlock
-  open-clean b t =
-      let nay = not-true (fullBlock l x b) (and_both (not (cleanBlock l x b)) (not (fullBlock l x b)) t).1 in
-      let (i, place, e) = all-false K (usedIn l x b) nay in
-      (i, place, not-false (cleanIn l x b i) e)
+  open_clean : (b : ℕ) → open_block l x b ≡ true → (i : ℕ) × (i < K) × (clean_in l x b i ≡ true)
+  unfolding open_block full_block
+  open_clean b t =
+      let nay = not-true (full_block l x b) (and_both (not (clean_block l x b)) (not (full_block l x b)) t).1 in
+      let (i, place, e) = all_false K (used_in l x b) nay in
+      (i, place, not-false (clean_in l x b i) e)
 
-  is-full : (b : ℕ) → cleanBlock l x b ≡ false → openBlock l x b ≡ false → fullBlock l x b ≡ true
-  unfolding openBlock
-  is-full b begun shut = not-false (fullBlock l x b) (rw begun at shut)
+  is_full : (b : ℕ) → clean_block l x b ≡ false → open_block l x b ≡ false → full_block l x b ≡ true
+  unfolding open_block
+  is_full b begun shut = not-false (full_block l x b) (rw begun at shut)
 
-  pub is_open : (b i : ℕ) → cleanBlock l x b ≡ false → i < K → cleanIn l x b i ≡ true → openBlock l x b ≡ true
-  unfolding fullBlock
+  pub is_open : (b i : ℕ) → clean_block l x b ≡ false → i < K → clean_in l x b i ≡ true → open_block l x b ≡ true
+  unfolding full_block
   is_open b i begun place t =
-      by-test (openBlock l x b)
+      by_test (open_block l x b)
       (λ e. e)
-      (λ e. both (cleanIn l x b i) t (not-true (cleanIn l x b i) (all-at K (usedIn l x b) (is-full b begun e) i place)))
+      (λ e. both (clean_in l x b i) t (not-true (clean_in l x b i) (all_at K (used_in l x b) (is_full b begun e) i place)))
 
   -- the answers
-  pub place-begun : (b i : ℕ) → firstBelow B (openBlock l x) ≡ At b → firstBelow K (cleanIn l x b) ≡ At i → place_of l x ≡ At (pageIn l b i)
-  unfolding place_of lowestCleanPage whenFound
-  place-begun b i e q = rw (e, q)
+  pub place_begun : (b i : ℕ) → first_below B (open_block l x) ≡ At b → first_below K (clean_in l x b) ≡ At i → place_of l x ≡ At (page_in l b i)
+  unfolding place_of lowest_clean_page when_found
+  place_begun b i e q = rw (e, q)
 
-  pub place-fresh : (b : ℕ) → firstBelow B (openBlock l x) ≡ Nothing → 2 ≤ countBelow B (cleanBlock l x) → firstBelow B (cleanBlock l x) ≡ At b
-      → place_of l x ≡ At (pageIn l b 0)
-  unfolding place_of lowestCleanBlock whenFound
-  place-fresh b e h q = rw (e, le-leb 2 (countBelow B (cleanBlock l x)) h, q)
+  pub place_fresh : (b : ℕ) → first_below B (open_block l x) ≡ Nothing → 2 ≤ count_below B (clean_block l x) → first_below B (clean_block l x) ≡ At b
+      → place_of l x ≡ At (page_in l b 0)
+  unfolding place_of lowest_clean_block when_found
+  place_fresh b e h q = rw (e, le-leb 2 (count_below B (clean_block l x)) h, q)
 
-  pub place-nowhere : firstBelow B (openBlock l x) ≡ Nothing → countBelow B (cleanBlock l x) < 2 → place_of l x ≡ Nothing
-  unfolding place_of whenFound
-  place-nowhere e h = rw (e, lt-leb 2 (countBelow B (cleanBlock l x)) h)
+  pub place_nowhere : first_below B (open_block l x) ≡ Nothing → count_below B (clean_block l x) < 2 → place_of l x ≡ Nothing
+  unfolding place_of when_found
+  place_nowhere e h = rw (e, lt-leb 2 (count_below B (clean_block l x)) h)
 
   -- and no others
   pub by_place {ℓ} : {P : Type ℓ}
-      → ((b i : ℕ) → firstBelow B (openBlock l x) ≡ At b → firstBelow K (cleanIn l x b) ≡ At i → P)
-      → ((b : ℕ) → firstBelow B (openBlock l x) ≡ Nothing → 2 ≤ countBelow B (cleanBlock l x) → firstBelow B (cleanBlock l x) ≡ At b → P)
-      → (firstBelow B (openBlock l x) ≡ Nothing → countBelow B (cleanBlock l x) < 2 → P)
+      → ((b i : ℕ) → first_below B (open_block l x) ≡ At b → first_below K (clean_in l x b) ≡ At i → P)
+      → ((b : ℕ) → first_below B (open_block l x) ≡ Nothing → 2 ≤ count_below B (clean_block l x) → first_below B (clean_block l x) ≡ At b → P)
+      → (first_below B (open_block l x) ≡ Nothing → count_below B (clean_block l x) < 2 → P)
       → P
   by_place begun fresh nowhere =
-      by-found (firstBelow B (openBlock l x))
+      by_found (first_below B (open_block l x))
       (λ b e.
-      let (k, place, t) = open-clean b (first-at B (openBlock l x) b e).1 in
-      let (i, q) = first_found K (cleanIn l x b) k place t in
+      let (k, place, t) = open_clean b (first_at B (open_block l x) b e).1 in
+      let (i, q) = first_found K (clean_in l x b) k place t in
       begun b i e q)
-      (λ e. by_order (countBelow B (cleanBlock l x)) 2 (nowhere e) (λ h.
-      let (k, fits, t) = count-found B (cleanBlock l x) (omega arith) in
-      let (b, q) = first_found B (cleanBlock l x) k fits t in
+      (λ e. by_order (count_below B (clean_block l x)) 2 (nowhere e) (λ h.
+      let (k, fits, t) = count_found B (clean_block l x) (omega arith) in
+      let (b, q) = first_found B (clean_block l x) k fits t in
       fresh b e h q))
 
   -- where there is none, all blocks are full but the one that is clean
-  pub all-full : (b d : ℕ) → b < B → d < B → d ≢ b → cleanBlock l x b ≡ true → place_of l x ≡ Nothing → fullBlock l x d ≡ true
-  all-full b d fits fits' other t e =
+  pub all_full : (b d : ℕ) → b < B → d < B → d ≢ b → clean_block l x b ≡ true → place_of l x ≡ Nothing → full_block l x d ≡ true
+  all_full b d fits fits' other t e =
       by_place
-      (λ k i o q. cc (place-begun k i o q))
-      (λ k o h q. cc (place-fresh k o h q))
-      (λ o few. by-test (cleanBlock l x d)
-      (λ s. absurd (omega (arith, count-two B (cleanBlock l x) d b fits' fits other s t)))
-      (λ s. is-full d s (first-nothing B (openBlock l x) o d fits')))
+      (λ k i o q. cc (place_begun k i o q))
+      (λ k o h q. cc (place_fresh k o h q))
+      (λ o few. by_test (clean_block l x d)
+      (λ s. absurd (omega (arith, count_two B (clean_block l x) d b fits' fits other s t)))
+      (λ s. is_full d s (first_nothing B (open_block l x) o d fits')))

@@ -6,18 +6,18 @@ use mathlib.Core.Path.{◌≡◌}
 use mathlib.Core.Logic.{⊎_elim}
 use borrow.Author.Rules.{rules}
 use Rattle.layout.specs.Layout.{layout_of}
-use Rattle.layout.specs.Page.{pageAt}
-use Rattle.layout.specs.Record.{recordAt}
+use Rattle.layout.specs.Page.{page_at}
+use Rattle.layout.specs.Record.{record_at}
 use Rattle.layout.proofs.Limits.{within}
-use Rattle.spares.specs.Scans.{chipScans}
-use Rattle.spares.proofs.Scanning.{Row, row-start, row_next, row_more, row-lost, row-all, all_start}
+use Rattle.spares.specs.Scans.{chip_scans}
+use Rattle.spares.proofs.Scanning.{Row, row_start, row_next, row_more, row_lost, row_all, all_start}
 use Rattle.spares.proofs.scan_all.Statement.{statement}
 use Rattle.spares.proofs.scan_all.Tie as tie
 
 abbrev invariant-loop2 : tie.invariant-loop2
 invariant-loop2 chips records g lost blocks n scans₀ b end c₀ scans c =
     let l = layout_of g in
-    (c ≤ g.n + 1) × Row l (recordAt l records) (pageAt l chips) lost b end c scans
+    (c ≤ g.n + 1) × Row l (record_at l records) (page_at l chips) lost b end c scans
 
 abbrev decreases-loop2 : tie.decreases-loop2
 decreases-loop2 chips records g lost blocks n scans₀ b end c₀ scans c = g.n + 1 - c
@@ -25,7 +25,7 @@ decreases-loop2 chips records g lost blocks n scans₀ b end c₀ scans c = g.n 
 abbrev invariant-loop : tie.invariant-loop
 invariant-loop chips records g lost blocks n scans₀ b₀ scans b =
     let l = layout_of g in
-    (b ≤ g.b) × (scans ≡ chipScans l (recordAt l records) (pageAt l chips) lost b)
+    (b ≤ g.b) × (scans ≡ chip_scans l (record_at l records) (page_at l chips) lost b)
 
 abbrev decreases-loop : tie.decreases-loop
 decreases-loop chips records g lost blocks n scans₀ b₀ scans b = g.b - b
@@ -34,13 +34,13 @@ loop-holds : tie.Need-loop-init invariant-loop2 decreases-loop2 invariant-loop d
 loop-holds c = (omega arith, all_start _ _ _ _ (λ i. c.no_block.ensures _ _ _ i))
 
 loop2-holds : tie.Need-loop2-init invariant-loop2 decreases-loop2 invariant-loop decreases-loop
-loop2-holds c = let o = c.before.before.loop.invariant in (omega arith, row-start _ _ _ _ _ _ o.1)
+loop2-holds c = let o = c.before.before.loop.invariant in (omega arith, row_start _ _ _ _ _ _ o.1)
 
 -- a chip is one of at most seven
 seven : (c : tie.In-loop2 invariant-loop2 decreases-loop2 invariant-loop decreases-loop) → c.before.loop2.c < 7
 seven c =
     let s = c.before.before.before.before.before.before.before.before in
-    omega (arith, (within (layout_of s.args.g) s.requires.0.limited).members-high)
+    omega (arith, (within (layout_of s.args.g) s.requires.0.limited).members_high)
 
 with-blocks-requires : tie.Need-with-blocks-requires invariant-loop2 decreases-loop2 invariant-loop decreases-loop
 with-blocks-requires c κs =
@@ -56,14 +56,14 @@ loop2-again c =
       omega arith,
       ⊎_elim
           (λ w. rw w.3 (row_more o.1 low c.before.loop2-test.true w.0.taken w.2.ensures))
-          (λ w. rw w.1 (row-lost o.1 low w.0.left))
+          (λ w. rw w.1 (row_lost o.1 low w.0.left))
           c.if1.branch,
     )
 
 loop-again : tie.Need-loop-preserved invariant-loop2 decreases-loop2 invariant-loop decreases-loop
 loop-again c =
     let o = c.before.loop2.invariant in
-    (c.before.before.next-stop.ensures.1, row-all o.1 (omega arith))
+    (c.before.before.next-stop.ensures.1, row_all o.1 (omega arith))
 
 returns : tie.Need-returns invariant-loop2 decreases-loop2 invariant-loop decreases-loop
 returns c = let all : c.before.loop.b ≡ c.before.before.before.before.before.args.g.b = omega arith in rw all at c.before.loop.invariant.1

@@ -4,16 +4,16 @@ use native.Mathlib.Omega.{arith}
 use mathlib.Core.Path.{◌≡◌}
 use borrow.Author.Rules.{rules}
 use Rattle.layout.specs.Layout.{layout_of}
-use Rattle.layout.specs.Page.{pageAt}
-use Rattle.layout.specs.Record.{recordAt}
-use Rattle.spares.specs.Scans.{chipScan}
+use Rattle.layout.specs.Page.{page_at}
+use Rattle.layout.specs.Record.{record_at}
+use Rattle.spares.specs.Scans.{chip_scan}
 use Rattle.spares.proofs.scan_chip.Statement.{statement}
 use Rattle.spares.proofs.scan_chip.Tie as tie
 
 abbrev invariant-loop : tie.invariant-loop
 invariant-loop chips records g c blocks scan₀ b₀ scan b =
     let l = layout_of g in
-    (b ≤ g.b) × (scan ≡ chipScan l (recordAt l records) (pageAt l chips c) c b)
+    (b ≤ g.b) × (scan ≡ chip_scan l (record_at l records) (page_at l chips c) c b)
 
 abbrev decreases-loop : tie.decreases-loop
 decreases-loop chips records g c blocks scan₀ b₀ scan b = g.b - b

@@ -6,14 +6,14 @@ use native.Mathlib.Omega.{arith}
 use mathlib.Core.Path.{◌≡◌, refl}
 use borrow.Author.Rules.{rules}
 use Rattle.layout.specs.Layout.{layout_of}
-use Rattle.layout.specs.Page.{pageAt}
-use Rattle.layout.specs.Record.{recordAt}
+use Rattle.layout.specs.Page.{page_at}
+use Rattle.layout.specs.Record.{record_at}
 use Rattle.layout.proofs.Limits.{within}
-use Rattle.layout.proofs.Pages.{page-in-fits}
-use Rattle.codec.proofs.Fetching.{start-low}
-use Rattle.spares.specs.Scans.{blockScan, chipScan}
+use Rattle.layout.proofs.Pages.{page_in_fits}
+use Rattle.codec.proofs.Fetching.{start_low}
+use Rattle.spares.specs.Scans.{block_scan, chip_scan}
 use Rattle.spares.proofs.Fields.{fields_fit}
-use Rattle.spares.proofs.Scanning.{together-end, together-in, stamps-fewer, fields-fewer, scan-few, scan-more}
+use Rattle.spares.proofs.Scanning.{together_end, together_in, stamps_fewer, fields_fewer, scan_few, scan_more}
 use Rattle.spares.proofs.with_blocks.Statement.{statement}
 use Rattle.spares.proofs.with_blocks.Tie as tie
 
@@ -21,7 +21,7 @@ abbrev invariant-loop : tie.invariant-loop
 invariant-loop chips records g c from end k first count tags stripes fields ordered₀ clean₀ named₀ victim₀ b₀ o₀ ordered clean named victim b o =
     let l = layout_of g in
     (b ≤ end) × (from * k + o ≡ b * k)
-    × (record { ordered = ordered; clean = clean; named = named; victim = victim } ≡ chipScan l (recordAt l records) (pageAt l chips c) c b)
+    × (record { ordered = ordered; clean = clean; named = named; victim = victim } ≡ chip_scan l (record_at l records) (page_at l chips c) c b)
 
 abbrev decreases-loop : tie.decreases-loop
 decreases-loop chips records g c from end k first count tags stripes fields ordered₀ clean₀ named₀ victim₀ b₀ o₀ ordered clean named victim b o = end - b
@@ -32,8 +32,8 @@ fetch-stamps-requires c κs =
     let a = s.args in (
       s.requires.0,
       s.requires.2,
-      omega (arith, page-in-fits (layout_of a.g) a.from 0 (omega arith) (omega (arith, (within (layout_of a.g) s.requires.0.limited).places-low))),
-      omega (arith, together-end a.g.k s.requires.3, mul-le-mul_right a.g.k s.requires.4),
+      omega (arith, page_in_fits (layout_of a.g) a.from 0 (omega arith) (omega (arith, (within (layout_of a.g) s.requires.0.limited).places_low))),
+      omega (arith, together_end a.g.k s.requires.3, mul-le-mul_right a.g.k s.requires.4),
       s.requires.5,
       refl,
       refl,
@@ -50,7 +50,7 @@ fits : (c : tie.In-loop invariant-loop decreases-loop)
     → let a = c.before.before.before.before.before.before.before.before.before.before.before.before.args in c.before.loop.o + a.g.k ≤ (a.end - a.from) * a.g.k
 fits c =
     let s = c.before.before.before.before.before.before.before.before.before.before.before.before in
-    together-in s.args.g.k s.requires.3 c.before.loop.b c.before.loop.o c.before.loop.invariant.1 c.loop-test.true
+    together_in s.args.g.k s.requires.3 c.before.loop.b c.before.loop.o c.before.loop.invariant.1 c.loop-test.true
 
 -- and one of the chip
 block : (c : tie.In-loop invariant-loop decreases-loop) → c.before.loop.b + 1 ≤ c.before.before.before.before.before.before.before.before.before.before.before.before.args.g.b
@@ -63,7 +63,7 @@ scan-block-requires c κs =
       s.requires.1,
       omega (arith, i.before.loop.invariant.1, suc-mul i.before.loop.b s.args.g.k, mul-le-mul_right s.args.g.k (block i)),
       omega (arith, fits i, s.requires.5),
-      fields_fit s.args.g s.args.c s.requires.0.limited s.requires.2 (fields-fewer (layout_of s.args.g) s.args.c (fits i) i.before.before.before.fields-of.ensures.0),
+      fields_fit s.args.g s.args.c s.requires.0.limited s.requires.2 (fields_fewer (layout_of s.args.g) s.args.c (fits i) i.before.before.before.fields-of.ensures.0),
     )
 
 with-next-requires : tie.Need-with-next-requires invariant-loop decreases-loop
@@ -72,21 +72,21 @@ with-next-requires c κs = search rules
 -- the scan of block b
 seen : (c : tie.After-struct-known5 invariant-loop decreases-loop)
     → let a = c.before.before.before.before.before.before.before.before.before.before.before.before.before.before.before.before.before.before.before.before.before.before.args in let l = layout_of a.g in
-    c.before.before.before.before.before.before.scan-block.result ≡ blockScan l (recordAt l a.records.now) (pageAt l a.chips.now a.c) a.c c.before.before.before.before.before.before.before.before.before.before.before.loop.b
+    c.before.before.before.before.before.before.scan-block.result ≡ block_scan l (record_at l a.records.now) (page_at l a.chips.now a.c) a.c c.before.before.before.before.before.before.before.before.before.before.before.loop.b
 seen c =
     let i = c.before.before.before.before.before.before.before.before.before.before in
     let s = c.before.before.before.before.before.before.before.before.before.before.before.before.before.before.before.before.before.before.before.before.before.before in
     let a = s.args in
-    c.before.before.before.before.before.before.scan-block.ensures (pageAt (layout_of a.g) a.chips.now a.c) a.c i.before.loop.b s.requires.2 i.before.loop.invariant.1
-    (stamps-fewer (fits i) i.before.before.before.before.before.before.before.fetch-stamps.ensures.0)
-    (fields-fewer (layout_of a.g) a.c (fits i) i.before.before.before.fields-of.ensures.0)
+    c.before.before.before.before.before.before.scan-block.ensures (page_at (layout_of a.g) a.chips.now a.c) a.c i.before.loop.b s.requires.2 i.before.loop.invariant.1
+    (stamps_fewer (fits i) i.before.before.before.before.before.before.before.fetch-stamps.ensures.0)
+    (fields_fewer (layout_of a.g) a.c (fits i) i.before.before.before.fields-of.ensures.0)
 
 add-named : tie.Need-overflow-add-named invariant-loop decreases-loop
 add-named c =
     let i = c.before.before.before.before.before.before.before.before.before.before in
     let s = c.before.before.before.before.before.before.before.before.before.before.before.before.before.before.before.before.before.before.before.before.before.before in
     let low = i.loop-test.true in
-    omega (arith, scan-few _ _ _ _ _ i.before.loop.invariant.2 (seen c), start-low s.args.g s.requires.0.limited (i.before.loop.b + 1) (omega (arith, s.requires.4)))
+    omega (arith, scan_few _ _ _ _ _ i.before.loop.invariant.2 (seen c), start_low s.args.g s.requires.0.limited (i.before.loop.b + 1) (omega (arith, s.requires.4)))
 
 add-o : tie.Need-overflow-add-o invariant-loop decreases-loop
 add-o c = let i = c.before.before.before.before.before.before.before.before.before.before in omega (arith, fits i, c.before.before.before.before.before.before.before.before.before.before.before.before.before.before.before.before.before.before.before.before.before.before.requires.5)
@@ -97,7 +97,7 @@ loop-again c =
     let s = c.before.before.before.before.before.before.before.before.before.before.before.before.before.before.before.before.before.before.before.before.before.before in (
       omega (arith, i.loop-test.true),
       omega (arith, i.before.loop.invariant.1, suc-mul i.before.loop.b s.args.g.k),
-      scan-more _ _ _ _ _ i.before.loop.invariant.2 (seen c) c.before.before.before.with-next.ensures,
+      scan_more _ _ _ _ _ i.before.loop.invariant.2 (seen c) c.before.before.before.with-next.ensures,
     )
 
 returns : tie.Need-returns invariant-loop decreases-loop
@@ -111,7 +111,7 @@ with-blocks-spec =
     (tie.spec
     invariant-loop
     decreases-loop
-    (λ c. omega (arith, start-low c.before.before.args.g c.before.before.requires.0.limited c.before.before.args.from (omega (arith, c.before.before.requires.4))))
+    (λ c. omega (arith, start_low c.before.before.args.g c.before.before.requires.0.limited c.before.before.args.from (omega (arith, c.before.before.requires.4))))
     (λ c. omega arith)
     (λ c. omega (arith, c.before.before.requires.5))
     fetch-stamps-requires
@@ -120,7 +120,7 @@ with-blocks-spec =
     scan-block-requires
     with-next-requires
     add-named
-    (λ c. omega (arith, (within (layout_of c.before.before.before.before.before.before.before.before.before.before.before.before.before.before.before.before.before.before.before.before.before.before.args.g) c.before.before.before.before.before.before.before.before.before.before.before.before.before.before.before.before.before.before.before.before.before.before.requires.0.limited).blocks-high, c.before.before.before.before.before.before.before.before.before.before.loop-test.true, c.before.before.before.before.before.before.before.before.before.before.before.before.before.before.before.before.before.before.before.before.before.before.requires.4))
+    (λ c. omega (arith, (within (layout_of c.before.before.before.before.before.before.before.before.before.before.before.before.before.before.before.before.before.before.before.before.before.before.args.g) c.before.before.before.before.before.before.before.before.before.before.before.before.before.before.before.before.before.before.before.before.before.before.requires.0.limited).blocks_high, c.before.before.before.before.before.before.before.before.before.before.loop-test.true, c.before.before.before.before.before.before.before.before.before.before.before.before.before.before.before.before.before.before.before.before.before.before.requires.4))
     add-o
     (λ c. omega arith)
     loop-again

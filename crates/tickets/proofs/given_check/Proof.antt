@@ -2,16 +2,16 @@
 use borrow.Author.Rules.{rules}
 use lib.Dec.{eqb}
 use lib.ListN.{length}
-use Rattle.layout.specs.Layout.{noChip}
-use Rattle.rules.specs.Tickets.{ticketBytes, ticketOf, ticketSound}
-use Rattle.tickets.proofs.Results.{given-told}
+use Rattle.layout.specs.Layout.{no_chip}
+use Rattle.rules.specs.Tickets.{ticket_bytes, ticket_of, ticket_sound}
+use Rattle.tickets.proofs.Results.{given_told}
 use Rattle.tickets.proofs.given_check.Statement.{statement}
 use Rattle.tickets.proofs.given_check.Tie as tie
 
 returns : tie.Need-returns
 returns c =
     let a = c.before.before.before.before.before.args in
-    given-told a.first (eqb (length a.ticket.now) ticketBytes) (eqb a.lost noChip) (ticketSound (ticketOf a.ticket.now))
+    given_told a.first (eqb (length a.ticket.now) ticket_bytes) (eqb a.lost no_chip) (ticket_sound (ticket_of a.ticket.now))
     c.before.before.before.also.ensures c.before.before.also2.ensures c.before.is-ticket.ensures c.also3.ensures
 
 pub given-check-spec : {M : Type 1} → statement M

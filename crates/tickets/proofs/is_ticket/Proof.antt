@@ -6,16 +6,16 @@ use Prim.Native.Nat.{ℕ}
 use borrow.Author.Rules.{rules}
 use borrow.Author.Tests.{eq-eqb, ne_eqb}
 use lib.ListN.{length}
-use Rattle.bytes.specs.Units.{unit}
-use Rattle.bytes.proofs.Units.{part-whole}
-use Rattle.rules.specs.Tickets.{ticketBytes, ticketOf, ticketSound}
+use Rattle.octets.specs.Units.{unit}
+use Rattle.octets.proofs.Units.{part_whole}
+use Rattle.rules.specs.Tickets.{ticket_bytes, ticket_of, ticket_sound}
 use Rattle.tickets.proofs.is_ticket.Statement.{statement}
 use Rattle.tickets.proofs.is_ticket.Tie as tie
 
 -- they are its first unit
-first-unit : (xs : List ℕ) → length xs ≡ ticketBytes → unit ticketBytes 0 xs ≡ xs
+first-unit : (xs : List ℕ) → length xs ≡ ticket_bytes → unit ticket_bytes 0 xs ≡ xs
 unfolding unit
-first-unit xs h = part-whole 16 xs h
+first-unit xs h = part_whole 16 xs h
 
 returns : tie.Need-returns
 returns c = rw (ne_eqb _ _ c.if1.true)
@@ -24,7 +24,7 @@ returns-2 : tie.Need-returns-2
 returns-2 c =
     let k = c.before.before in
     let s = k.before.before in
-    rw (eq-eqb _ _ k.if1.false) (c.is-sound.ensures ∙ ap ticketSound (c.before.ticket-in.ensures ∙ ap ticketOf (first-unit s.args.ticket.now k.if1.false)))
+    rw (eq-eqb _ _ k.if1.false) (c.is-sound.ensures ∙ ap ticket_sound (c.before.ticket-in.ensures ∙ ap ticket_of (first-unit s.args.ticket.now k.if1.false)))
 
 pub is-ticket-spec : {M : Type 1} → statement M
 is-ticket-spec = tie.close (tie.spec returns (λ c κs. omega (arith, c.if1.false)) (λ c κs. search rules) returns-2)

@@ -1,12 +1,12 @@
 -- The report of the call's outcome.
 use mathlib.Core.Path.{ap}
-use Rattle.vazhettu.specs.Reports.{reportedOf}
+use Rattle.vazhettu.specs.Reports.{reported_of}
 use borrow.Author.Rules.{rules}
 use Rattle.vazhettu.proofs.vazhettu_add.Statement.{statement}
 use Rattle.vazhettu.proofs.vazhettu_add.Tie as tie
 
 returns : tie.Need-returns
-returns c = rw c.report-of.ensures (ap reportedOf c.before.before.before.before.before.before.before.add.ensures)
+returns c = rw c.report-of.ensures (ap reported_of c.before.before.before.before.before.before.before.add.ensures)
 
 pub vazhettu-add-spec : {M : Type 1} → statement M
 vazhettu-add-spec =

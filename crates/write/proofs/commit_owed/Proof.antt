@@ -5,21 +5,21 @@ use mathlib.Core.Bool.{true}
 use borrow.Author.Rules.{rules}
 use Rattle.ranges.specs.declared.Found.TheVariants.{At}
 use Rattle.layout.specs.Layout.{layout_of}
-use Rattle.layout.specs.Record.{recordAt, hasSlot}
+use Rattle.layout.specs.Record.{record_at, has_slot}
 use Rattle.steps.specs.Allowance.{images}
-use Rattle.steps.proofs.Allowances.{ran-none}
+use Rattle.steps.proofs.Allowances.{ran_none}
 use Rattle.rules.specs.Costs.{cheapest}
-use Rattle.rules.specs.Partial.{lowestFreeSlot}
+use Rattle.rules.specs.Partial.{lowest_free_slot}
 use Rattle.records.specs.declared.SlotScan.{SlotScan}
-use Rattle.write.proofs.Owing.{owed-commits, owed-nothing, cheapest-slotted, commit-lowers}
+use Rattle.write.proofs.Owing.{owed_commits, owed_nothing, cheapest_slotted, commit_lowers}
 use Rattle.write.proofs.commit_owed.Statement.{statement}
 use Rattle.write.proofs.commit_owed.Tie as tie
 
 -- the cheapest stripe and the free slot that were seen are those of the records
 known : (s : tie.Start)
     → let l = layout_of s.args.g in
-    let r = recordAt l s.args.records.now in
-    (s.args.seen.cheapest ≡ cheapest l r) × (s.args.seen.free ≡ lowestFreeSlot l r)
+    let r = record_at l s.args.records.now in
+    (s.args.seen.cheapest ≡ cheapest l r) × (s.args.seen.free ≡ lowest_free_slot l r)
 known s = (ap (λ (x : SlotScan). x.cheapest) s.pre.6, ap (λ (x : SlotScan). x.free) s.pre.6)
 
 -- what the function was called with, before the match
@@ -29,18 +29,18 @@ start c = c.before.before.before.before.before.before
 -- the stripe that is found is the cheapest
 found : (c : tie.After-cheapest)
     → let l = layout_of (start c).args.g in
-    cheapest l (recordAt l (start c).args.records.now) ≡ At c.cheapest.given.0.0
+    cheapest l (record_at l (start c).args.records.now) ≡ At c.cheapest.given.0.0
 found c = sym (known (start c)).0 ∙ c.cheapest.given.1
 
 -- and has a slot
 has : (c : tie.After-cheapest)
     → let l = layout_of (start c).args.g in
     let k = c.cheapest.given.0.0 in
-    (k < (start c).args.g.s) × (hasSlot (recordAt l (start c).args.records.now k) ≡ true)
-has c = let l = layout_of (start c).args.g in cheapest-slotted l (recordAt l (start c).args.records.now) (found c)
+    (k < (start c).args.g.s) × (has_slot (record_at l (start c).args.records.now k) ≡ true)
+has c = let l = layout_of (start c).args.g in cheapest_slotted l (record_at l (start c).args.records.now) (found c)
 
 slot-at-requires : tie.Need-slot-at-requires
-slot-at-requires c κs = let k = c.before.before in ((start k).pre.0.checked.records-pass.fit, (has k).0)
+slot-at-requires c κs = let k = c.before.before in ((start k).pre.0.checked.records_pass.fit, (has k).0)
 
 commit-stripe-requires : tie.Need-commit-stripe-requires
 commit-stripe-requires c κs =
@@ -57,9 +57,9 @@ returns c =
     let a = s.args in
     let l = layout_of a.g in
     let v = images a.chips.now a.records.now a.slots.now in (
-      rw (owed-commits l a.j v s.pre.4 (found k)) committed.commit-stripe.ensures,
+      rw (owed_commits l a.j v s.pre.4 (found k)) committed.commit-stripe.ensures,
       λ going. rw (c.lower.ensures, (known s).1, slot.slot_at.ensures.0)
-          (sym (commit-lowers s.pre.0 s.pre.1 (has k).0 (has k).1 committed.commit-stripe.ensures going)),
+          (sym (commit_lowers s.pre.0 s.pre.1 (has k).0 (has k).1 committed.commit-stripe.ensures going)),
     )
 
 returns-2 : tie.Need-returns-2
@@ -68,7 +68,7 @@ returns-2 c =
     let a = s.args in
     let l = layout_of a.g in
     let v = images a.chips.now a.records.now a.slots.now in (
-      rw (owed-nothing l a.j v s.pre.4 (sym (known s).0 ∙ c.enum_told.given.1)) (ran-none l a.p v s.pre.3),
+      rw (owed_nothing l a.j v s.pre.4 (sym (known s).0 ∙ c.enum_told.given.1)) (ran_none l a.p v s.pre.3),
       λ going. (known s).1,
     )
 

@@ -2,10 +2,10 @@
 use Prim.Native.Nat.{◌<◌}
 use native.Mathlib.Omega.{arith}
 use borrow.Author.Rules.{rules}
-use Rattle.ranges.specs.Look.{whenFound}
+use Rattle.ranges.specs.Look.{when_found}
 use Rattle.layout.specs.Layout.{layout_of}
 use Rattle.layout.proofs.Limits.{within}
-use Rattle.write.proofs.Owing.{victim-at}
+use Rattle.write.proofs.Owing.{victim_at}
 use Rattle.write.proofs.commit_victim.Statement.{statement}
 use Rattle.write.proofs.commit_victim.Tie as tie
 
@@ -16,16 +16,16 @@ start c = c.before.before.before.before
 seven : (c : tie.After-parity-chip) → c.parity-chip.result < 7
 seven c =
     let s = start c in
-    omega (arith, c.parity-chip.ensures.1, (within (layout_of s.args.g) s.pre).members-high)
+    omega (arith, c.parity-chip.ensures.1, (within (layout_of s.args.g) s.pre).members_high)
 
 returns : tie.Need-returns
-unfolding whenFound
+unfolding when_found
 returns c =
     let k = c.before.before in
-    rw k.before.before.cheapest.given.1 (victim-at (start k).args.t2 c.victim-in.ensures k.parity-chip.ensures.0)
+    rw k.before.before.cheapest.given.1 (victim_at (start k).args.t2 c.victim-in.ensures k.parity-chip.ensures.0)
 
 returns-2 : tie.Need-returns-2
-unfolding whenFound
+unfolding when_found
 returns-2 c = rw c.enum_told.given.1
 
 pub commit-victim-spec : {M : Type 1} → statement M

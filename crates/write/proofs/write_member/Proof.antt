@@ -7,15 +7,15 @@ use mathlib.Core.Bool.{true≢false}
 use borrow.Author.Rules.{rules}
 use borrow.Author.Tests.{not-true, not-false}
 use Rattle.layout.specs.Layout.{layout_of}
-use Rattle.layout.specs.Rotation.{memberChip}
+use Rattle.layout.specs.Rotation.{member_chip}
 use Rattle.steps.specs.Allowance.{Ran, images}
-use Rattle.steps.proofs.Allowances.{ran-none, ran_then, ran-then-cut}
+use Rattle.steps.proofs.Allowances.{ran_none, ran_then, ran_then_cut}
 use Rattle.rules.specs.Room.{placed}
-use Rattle.rules.specs.Partial.{writeAt}
-use Rattle.rules.specs.Write.{owedSteps, writeMember}
+use Rattle.rules.specs.Partial.{write_at}
+use Rattle.rules.specs.Write.{owed_steps, write_member}
 use Rattle.records.specs.declared.SlotScan.{SlotScan}
-use Rattle.commit.proofs.Placing.{seven, known-victim}
-use Rattle.write.proofs.Owing.{owed-not, owed-settled, owed-victim}
+use Rattle.commit.proofs.Placing.{seven, known_victim}
+use Rattle.write.proofs.Owing.{owed_not, owed_settled, owed_victim}
 use Rattle.write.proofs.write_member.Statement.{statement}
 use Rattle.write.proofs.write_member.Tie as tie
 
@@ -36,7 +36,7 @@ low c = seven (start c).requires.0 c.member-chip.ensures.1
 is-owed-requires : tie.Need-is-owed-requires
 is-owed-requires c κs =
     let h = (start c.before.before.before.before).requires in
-    (h.0.checked.records-pass.fit, h.3, ap (λ (x : SlotScan). x.slotted) h.8)
+    (h.0.checked.records_pass.fit, h.3, ap (λ (x : SlotScan). x.slotted) h.8)
 
 place-member-requires : tie.Need-place-member-requires
 place-member-requires c κs =
@@ -50,12 +50,12 @@ place-member-requires c κs =
       h.4,
       h.5,
       h.6,
-      λ _. known-victim h.7 on.1 on.0 t.before.before.before.victim-in.ensures,
+      λ _. known_victim h.7 on.1 on.0 t.before.before.before.victim-in.ensures,
       ap (λ (x : SlotScan). x.free) h.8,
     )
 
 returns : tie.Need-returns
-unfolding writeMember
+unfolding write_member
 returns c =
     let t = c.before.before.before.before.before.before.before.before.before.before.before.before.before in
     let s = start (chip t.before) in
@@ -63,24 +63,24 @@ returns c =
     let l = layout_of a.g in
     let v = images a.chips.now a.records.now a.slots.now in
     let owed = t.before.is-owed in
-    let first : Ran l a.p (owedSteps l a.j v) a.p v v = rw (owed-not l a.j v (sym owed.ensures ∙ not-true owed.result t.if1.true)) (ran-none l a.p v s.pre.6) in
-    ran_then l a.p a.p _ (owedSteps l a.j v) (placed l (memberChip l a.j a.m) (writeAt l a.j a.m a.bytes.now)) v v _ first c.before.before.before.before.before.before.before.before.place-member.ensures
+    let first : Ran l a.p (owed_steps l a.j v) a.p v v = rw (owed_not l a.j v (sym owed.ensures ∙ not-true owed.result t.if1.true)) (ran_none l a.p v s.pre.6) in
+    ran_then l a.p a.p _ (owed_steps l a.j v) (placed l (member_chip l a.j a.m) (write_at l a.j a.m a.bytes.now)) v v _ first c.before.before.before.before.before.before.before.before.place-member.ensures
 
 commit-owed-requires : tie.Need-commit-owed-requires
 commit-owed-requires c κs =
     let t = c.before.before.before.before in
     let h = (start (chip t.before)).requires in
     let owed = t.before.is-owed in
-    (h.0, h.1, h.2, h.6, sym owed.ensures ∙ not-false owed.result t.if1.false, owed-victim h.7 t.before.before.before.commit-victim.ensures, h.8)
+    (h.0, h.1, h.2, h.6, sym owed.ensures ∙ not-false owed.result t.if1.false, owed_victim h.7 t.before.before.before.commit-victim.ensures, h.8)
 
 returns-2 : tie.Need-returns-2
-unfolding writeMember
+unfolding write_member
 returns-2 c =
     let o = c.before.before.before.before.before.before.before.before in
     let a = (start (chip (test o))).args in
     let l = layout_of a.g in
     let v = images a.chips.now a.records.now a.slots.now in
-    ran-then-cut l a.p o.commit-owed.result.run (owedSteps l a.j v) (placed l (memberChip l a.j a.m) (writeAt l a.j a.m a.bytes.now)) v _ o.commit-owed.ensures.0 c.if2.true
+    ran_then_cut l a.p o.commit-owed.result.run (owed_steps l a.j v) (placed l (member_chip l a.j a.m) (write_at l a.j a.m a.bytes.now)) v _ o.commit-owed.ensures.0 c.if2.true
 
 place-member-requires-2 : tie.Need-place-member-requires-2
 place-member-requires-2 c κs =
@@ -88,7 +88,7 @@ place-member-requires-2 c κs =
     let going = c.before.before.before.before.if2.false in
     let s = start (chip (test o)) in
     let h = s.pre in (
-      owed-settled h.0 h.1 s.args.j o.commit-owed.ensures.0 going,
+      owed_settled h.0 h.1 s.args.j o.commit-owed.ensures.0 going,
       h.1,
       o.commit-owed.auto.1.1.1.0 ∙ h.2,
       h.3,
@@ -100,13 +100,13 @@ place-member-requires-2 c κs =
     )
 
 returns-3 : tie.Need-returns-3
-unfolding writeMember
+unfolding write_member
 returns-3 c =
     let o = c.before.before.before.before.before.before.before.before.before.before.before.before.before.before.before.before.before.before.before.before.before in
     let a = (start (chip (test o))).args in
     let l = layout_of a.g in
     let v = images a.chips.now a.records.now a.slots.now in
-    ran_then l a.p o.commit-owed.result.run _ (owedSteps l a.j v) (placed l (memberChip l a.j a.m) (writeAt l a.j a.m a.bytes.now)) v _ _ o.commit-owed.ensures.0 c.before.before.before.before.before.before.before.before.place-member2.ensures
+    ran_then l a.p o.commit-owed.result.run _ (owed_steps l a.j v) (placed l (member_chip l a.j a.m) (write_at l a.j a.m a.bytes.now)) v _ _ o.commit-owed.ensures.0 c.before.before.before.before.before.before.before.before.place-member2.ensures
 
 pub write-member-spec : {M : Type 1} → statement M
 write-member-spec =
@@ -116,7 +116,7 @@ write-member-spec =
     (λ c. omega (arith, low c))
     (λ c. low c)
     (λ c κs. search rules)
-    (λ c κs. (start c.before.before).requires.0.checked.chips-fit.limited)
+    (λ c κs. (start c.before.before).requires.0.checked.chips_fit.limited)
     is-owed-requires
     place-member-requires
     (λ c. search rules)

@@ -4,7 +4,7 @@ use mathlib.Core.Path.{◌≡◌}
 use mathlib.Core.Bool.{true}
 use borrow.Author.Tests.{not-true, not-false}
 use Rattle.layout.specs.declared.Geometry.{Geometry}
-use Rattle.codec.proofs.Sizes.{sizes, counts, sizes-fail, counts-fail, counts-pass, small, few}
+use Rattle.codec.proofs.Sizes.{sizes, counts, sizes_fail, counts_fail, counts_pass, small, few}
 use Rattle.codec.proofs.limits.geometry_passes.Statement.{statement}
 use Rattle.codec.proofs.limits.geometry_passes.Tie as tie
 
@@ -27,12 +27,12 @@ counted c = not-false (counts (second c)) c.before.if2.false
 returns : tie.Need-returns
 returns c =
     let g = c.before.before.before.before.before.before.before.before.before.before.args.g in
-    sizes-fail g (not-true (sizes g) c.if1.true)
+    sizes_fail g (not-true (sizes g) c.if1.true)
 
 returns-2 : tie.Need-returns-2
 returns-2 c =
     let d = c.before.before.before.before.before in
-    counts-fail (first d) (sized d) (not-true (counts (first d)) c.if2.true)
+    counts_fail (first d) (sized d) (not-true (counts (first d)) c.if2.true)
 
 sub-result : tie.Need-overflow-sub-result
 sub-result c =
@@ -47,7 +47,7 @@ mul-result c =
 returns-3 : tie.Need-returns-3
 returns-3 c =
     let d = c.before.before in
-    counts-pass (second d) (sized d.before.before.before.before.before.before) (counted d)
+    counts_pass (second d) (sized d.before.before.before.before.before.before) (counted d)
 
 pub geometry-passes-spec : {M : Type 1} → statement M
 geometry-passes-spec =

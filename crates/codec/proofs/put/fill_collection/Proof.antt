@@ -1,8 +1,8 @@
 -- The five parts, one behind the other, are the record.
 use borrow.Author.Rules.{rules}
-use Rattle.bytes.specs.Number.{digits}
+use Rattle.octets.specs.Number.{digits}
 use Rattle.codec.proofs.Fills.{laid}
-use Rattle.codec.proofs.Encodings.{collection-laid}
+use Rattle.codec.proofs.Encodings.{collection_laid}
 use Rattle.codec.proofs.put.fill_collection.Statement.{statement}
 use Rattle.codec.proofs.put.fill_collection.Tie as tie
 
@@ -17,7 +17,7 @@ returns c g =
       c.before.before.before.before.before.before.before.before.before.before.before.before.before.before.put-number2.ensures,
       c.before.before.before.before.before.before.before.before.before.before.before.before.before.before.before.before.before.before.put-number.ensures,
     )
-    (collection-laid g start.args.co start.args.dst.now start.requires.0 start.requires.1 start.requires.2)
+    (collection_laid g start.args.co start.args.dst.now start.requires.0 start.requires.1 start.requires.2)
 
 pub fill-collection-spec : {M : Type 1} → statement M
 fill-collection-spec =

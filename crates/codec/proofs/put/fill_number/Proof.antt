@@ -2,8 +2,8 @@
 use Prim.Native.Nat.{◌-◌}
 use native.Mathlib.Omega.{arith}
 use borrow.Author.Rules.{rules}
-use Rattle.bytes.proofs.Lists.{stored-all}
-use Rattle.codec.proofs.Fills.{Digits, digits-none, digits_more}
+use Rattle.octets.proofs.Lists.{stored_all}
+use Rattle.codec.proofs.Fills.{Digits, digits_none, digits_more}
 use Rattle.codec.proofs.put.fill_number.Statement.{statement}
 use Rattle.codec.proofs.put.fill_number.Tie as tie
 
@@ -19,5 +19,5 @@ loop-again c = digits_more c.before.loop.invariant (omega arith)
 pub fill-number-spec : {M : Type 1} → statement M
 fill-number-spec =
     tie.close
-    (tie.spec invariant-loop decreases-loop (λ c. digits-none c.args.x c.args.dst.now) (λ c. search rules) (λ c. search rules) (λ c. search rules)
-    (λ c. search rules) loop-again (λ c. c.before.loop.invariant.stored.same) (λ c. stored-all c.before.loop.invariant.stored (omega arith)))
+    (tie.spec invariant-loop decreases-loop (λ c. digits_none c.args.x c.args.dst.now) (λ c. search rules) (λ c. search rules) (λ c. search rules)
+    (λ c. search rules) loop-again (λ c. c.before.loop.invariant.stored.same) (λ c. stored_all c.before.loop.invariant.stored (omega arith)))

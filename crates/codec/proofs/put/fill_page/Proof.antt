@@ -1,8 +1,8 @@
 -- The data in front and the spare bytes behind them are the page.
 use native.Mathlib.Nat.{add-sub_cancel_left, sub-zero}
 use borrow.Author.Rules.{rules}
-use Rattle.bytes.specs.Units.{put}
-use Rattle.codec.proofs.Offsets.{page-filled}
+use Rattle.octets.specs.Units.{put}
+use Rattle.codec.proofs.Offsets.{page_filled}
 use Rattle.codec.proofs.put.fill_page.Statement.{statement}
 use Rattle.codec.proofs.put.fill_page.Tie as tie
 
@@ -11,7 +11,7 @@ unfolding put
 returns c g =
     let start = c.before.before.before.before.before.before.before.before.before.before in
     rw (c.before.before.before.before.before.before.copy.ensures, c.before.before.fill-spare.ensures, sub-zero, add-sub_cancel_left)
-    (page-filled g start.args.bytes.now start.args.page.now start.args.t start.requires.0)
+    (page_filled g start.args.bytes.now start.args.page.now start.args.t start.requires.0)
 
 pub fill-page-spec : {M : Type 1} → statement M
 fill-page-spec =

@@ -1,9 +1,9 @@
 -- The six parts, one behind the other, are the record.
 use borrow.Author.Rules.{rules}
-use Rattle.bytes.specs.Number.{digits}
+use Rattle.octets.specs.Number.{digits}
 use Rattle.layout.specs.Record.{row}
 use Rattle.codec.proofs.Fills.{laid}
-use Rattle.codec.proofs.Encodings.{record-laid}
+use Rattle.codec.proofs.Encodings.{record_laid}
 use Rattle.codec.proofs.put.fill_record.Statement.{statement}
 use Rattle.codec.proofs.put.fill_record.Tie as tie
 
@@ -20,7 +20,7 @@ returns c g =
       sixes.put-six2.ensures,
       sixes.before.before.before.before.put_six.ensures,
     )
-    (record-laid g start.args.e start.args.dst.now start.requires.0 start.requires.1)
+    (record_laid g start.args.e start.args.dst.now start.requires.0 start.requires.1)
 
 pub fill-record-spec : {M : Type 1} → statement M
 fill-record-spec =

@@ -1,8 +1,8 @@
 -- The five parts, one behind the other, are the spare bytes.
 use borrow.Author.Rules.{rules}
-use Rattle.bytes.specs.Number.{digits}
+use Rattle.octets.specs.Number.{digits}
 use Rattle.codec.proofs.Fills.{laid}
-use Rattle.codec.proofs.Encodings.{spare-laid}
+use Rattle.codec.proofs.Encodings.{spare_laid}
 use Rattle.codec.proofs.put.fill_spare.Statement.{statement}
 use Rattle.codec.proofs.put.fill_spare.Tie as tie
 
@@ -17,7 +17,7 @@ returns c =
       c.before.before.before.before.before.before.before.before.before.before.before.before.before.before.put-number2.ensures,
       c.before.before.before.before.before.before.before.before.before.before.before.before.before.before.before.before.before.before.put-number.ensures,
     )
-    (spare-laid start.args.t start.args.dst.now start.requires.0 start.requires.1)
+    (spare_laid start.args.t start.args.dst.now start.requires.0 start.requires.1)
 
 pub fill-spare-spec : {M : Type 1} → statement M
 fill-spare-spec =

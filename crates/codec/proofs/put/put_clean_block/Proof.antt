@@ -2,7 +2,7 @@
 use native.Mathlib.Nat.{add-sub_cancel_left}
 use native.Mathlib.Omega.{arith}
 use borrow.Author.Rules.{rules}
-use Rattle.bytes.specs.Units.{part, put}
+use Rattle.octets.specs.Units.{part, put}
 use Rattle.steps.specs.Store.{erased}
 use Rattle.codec.proofs.Offsets.{BlockIn, block_in}
 use Rattle.codec.proofs.put.put_clean_block.Statement.{statement}

@@ -1,8 +1,8 @@
 -- The part that is lent comes back as the number.
 use native.Mathlib.Nat.{add-sub_cancel_left}
 use borrow.Author.Rules.{rules}
-use Rattle.bytes.specs.Units.{part, put}
-use Rattle.bytes.proofs.Units.{length_part}
+use Rattle.octets.specs.Units.{part, put}
+use Rattle.octets.proofs.Units.{length_part}
 use Rattle.codec.proofs.put.put_number.Statement.{statement}
 use Rattle.codec.proofs.put.put_number.Tie as tie
 

@@ -4,18 +4,18 @@ use native.Mathlib.Nat.{add-sub_cancel_left}
 use native.Mathlib.Omega.{arith}
 use lib.ListN.{length}
 use borrow.Author.Rules.{rules}
-use Rattle.bytes.specs.Units.{put, unitPut}
+use Rattle.octets.specs.Units.{put, unit_put}
 use Rattle.steps.specs.Store.{recorded}
-use Rattle.codec.proofs.Offsets.{record-within}
+use Rattle.codec.proofs.Offsets.{record_within}
 use Rattle.codec.proofs.put.put_record.Statement.{statement}
 use Rattle.codec.proofs.put.put_record.Tie as tie
 
 -- the record ends within the image
 fits : (c : tie.Start) → c.args.j * 32 + 32 ≤ length c.args.records.now
-fits c = record-within c.args.g c.args.records.now c.requires.0 c.args.j (omega arith)
+fits c = record_within c.args.g c.args.records.now c.requires.0 c.args.j (omega arith)
 
 returns : tie.Need-returns
-unfolding recorded unitPut put
+unfolding recorded unit_put put
 returns c =
     rw (c.before.before.fill-record.ensures c.before.before.before.before.before.args.g, add-sub_cancel_left)
 

@@ -4,7 +4,7 @@ use native.Mathlib.Omega.{arith}
 use mathlib.Core.Path.{◌≡◌}
 use lib.ListN.{get_or}
 use borrow.Author.Rules.{rules}
-use Rattle.codec.proofs.Fills.{Numbers, numbers-none, numbers_more}
+use Rattle.codec.proofs.Fills.{Numbers, numbers_none, numbers_more}
 use Rattle.codec.proofs.put.put_six.Statement.{statement}
 use Rattle.codec.proofs.put.put_six.Tie as tie
 
@@ -25,6 +25,6 @@ returns c =
 pub put-six-spec : {M : Type 1} → statement M
 put-six-spec =
     tie.close
-    (tie.spec invariant-loop decreases-loop (λ c. (omega arith, numbers-none c.before.args.a 2 _ c.before.args.dst.now)) (λ c. search rules)
+    (tie.spec invariant-loop decreases-loop (λ c. (omega arith, numbers_none c.before.args.a 2 _ c.before.args.dst.now)) (λ c. search rules)
     (λ c. search rules) (λ c. search rules) (λ c. search rules) (λ c κs. search rules) (λ c. search rules) (λ c. search rules) loop-again
     (λ c. c.before.loop.invariant.1.same) returns)

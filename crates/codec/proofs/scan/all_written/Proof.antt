@@ -5,12 +5,12 @@ use native.Mathlib.Omega.{arith}
 use mathlib.Core.Path.{◌≡◌, refl}
 use borrow.Author.Rules.{rules}
 use Rattle.ranges.specs.Look.{all_below}
-use Rattle.codec.specs.Scan.{writtenIn}
+use Rattle.codec.specs.Scan.{written_in}
 use Rattle.codec.proofs.scan.all_written.Statement.{statement}
 use Rattle.codec.proofs.scan.all_written.Tie as tie
 
 abbrev invariant-loop : tie.invariant-loop
-invariant-loop records a tops written₀ i₀ written i = (i ≤ 8) × (written ≡ all_below i (writtenIn tops records a))
+invariant-loop records a tops written₀ i₀ written i = (i ≤ 8) × (written ≡ all_below i (written_in tops records a))
 
 abbrev decreases-loop : tie.decreases-loop
 decreases-loop records a tops written₀ i₀ written i = 8 - i

@@ -5,8 +5,8 @@ use mathlib.Core.Path.{◌≡◌}
 use lib.ListN.{length, length-set}
 use Rattle.layout.specs.Layout.{layout_of}
 use Rattle.layout.proofs.Limits.{within}
-use Rattle.codec.proofs.Offsets.{page-high}
-use Rattle.codec.proofs.Fetching.{Filled, fill_start, fill_more, TagAt, StripeAt, spare-within, fetch-all}
+use Rattle.codec.proofs.Offsets.{page_high}
+use Rattle.codec.proofs.Fetching.{Filled, fill_start, fill_more, TagAt, StripeAt, spare_within, fetch_all}
 use Rattle.codec.proofs.scan.fetch_stamps.Statement.{statement}
 use Rattle.codec.proofs.scan.fetch_stamps.Tie as tie
 
@@ -32,7 +32,7 @@ place : (c : tie.In-loop invariant-loop decreases-loop)
 place c =
     let s = c.before.before.before.before in
     rw c.before.before.page-offset.ensures.0
-    (spare-within s.args.g s.args.chips.now s.requires.0 s.args.c s.args.first s.args.count s.requires.1 s.requires.3 c.before.loop.i c.loop-test.true)
+    (spare_within s.args.g s.args.chips.now s.requires.0 s.args.c s.args.first s.args.count s.requires.1 s.requires.3 c.before.loop.i c.loop-test.true)
 
 page-offset-requires : tie.Need-page-offset-requires invariant-loop decreases-loop
 page-offset-requires c κs =
@@ -42,7 +42,7 @@ page-offset-requires c κs =
 add_start : tie.Need-overflow-add-start invariant-loop decreases-loop
 add_start c =
     let s = c.before.before in
-    omega (arith, page-high s.args.g s.args.c s.args.first s.requires.1 s.requires.2 s.requires.0.limited)
+    omega (arith, page_high s.args.g s.args.c s.args.first s.requires.1 s.requires.2 s.requires.0.limited)
 
 add_a : tie.Need-overflow-add-a invariant-loop decreases-loop
 add_a c = omega (arith, (within (layout_of c.before.before.before.before.args.g) c.before.before.before.before.requires.0.limited).bytes_high)
@@ -63,7 +63,7 @@ returns c =
     let s = c.before.before.before.before in
     let e = c.before.before.page-offset.ensures.0 in
     let o = c.before.loop in
-    (fetch-all s.args.g s.args.chips.now s.requires.0 s.args.c s.args.first s.args.count s.requires.1 s.requires.3 (rw e at o.invariant.3) (rw e at o.invariant.4) (omega arith), o.invariant.1, o.invariant.2)
+    (fetch_all s.args.g s.args.chips.now s.requires.0 s.args.c s.args.first s.args.count s.requires.1 s.requires.3 (rw e at o.invariant.3) (rw e at o.invariant.4) (omega arith), o.invariant.1, o.invariant.2)
 
 pub fetch-stamps-spec : {M : Type 1} → statement M
 fetch-stamps-spec =

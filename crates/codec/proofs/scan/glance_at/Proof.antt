@@ -9,31 +9,31 @@ use lib.ListN.{length, get_or}
 use lib.Dec.{eqb, ltb}
 use borrow.Author.Rules.{rules}
 use borrow.Author.Tests.{eq-eqb, ne_eqb, not-true, not-false}
-use Rattle.ranges.specs.Look.{all_below, countBelow}
-use Rattle.ranges.proofs.Tallies.{ones, count-more}
+use Rattle.ranges.specs.Look.{all_below, count_below}
+use Rattle.ranges.proofs.Tallies.{ones, count_more}
 use Rattle.ranges.proofs.Tests.{and_both}
 use Rattle.layout.specs.Layout.{layout_of}
-use Rattle.layout.specs.Record.{recordAt}
+use Rattle.layout.specs.Record.{record_at}
 use Rattle.codec.specs.Scan.{Plain}
 use Rattle.codec.proofs.Sizes.{bounded}
-use Rattle.codec.proofs.Offsets.{record-within}
-use Rattle.codec.proofs.Glances.{next, lowIn, givenIn, parity-low, no-parity, plain}
+use Rattle.codec.proofs.Offsets.{record_within}
+use Rattle.codec.proofs.Glances.{next, low_in, given_in, parity_low, no_parity, plain}
 use Rattle.codec.proofs.scan.glance_at.Statement.{statement}
 use Rattle.codec.proofs.scan.glance_at.Tie as tie
 
 abbrev invariant-loop : tie.invariant-loop
 invariant-loop records j tops a pages parity bare low₀ names₀ m₀ low names m =
-    (m ≤ 8) × (low ≡ all_below m (lowIn tops records a)) × (names ≡ countBelow m (givenIn records a)) × (names ≤ m)
+    (m ≤ 8) × (low ≡ all_below m (low_in tops records a)) × (names ≡ count_below m (given_in records a)) × (names ≤ m)
 
 abbrev decreases-loop : tie.decreases-loop
 decreases-loop records j tops a pages parity bare low₀ names₀ m₀ low names m = 8 - m
 
 -- the record ends within the image
 fits : (c : tie.Start invariant-loop decreases-loop) → c.args.j * 32 + 32 ≤ length c.args.records.now
-fits c = record-within c.args.g c.args.records.now c.requires.0 c.args.j (omega (arith, c.requires.1))
+fits c = record_within c.args.g c.args.records.now c.requires.0 c.args.j (omega (arith, c.requires.1))
 
 loop-holds : tie.Need-loop-init invariant-loop decreases-loop
-unfolding all_below countBelow
+unfolding all_below count_below
 loop-holds c = (omega arith, refl, refl, omega arith)
 
 -- what the branch adds
@@ -52,7 +52,7 @@ loop-again c =
     let number = c.before.before.number_at.ensures.0 in (
       omega arith,
       rw (add-one loop.m, loop.invariant.1, number),
-      rw (with-page c, number, loop.invariant.2, add-one loop.m, count-more loop.m (givenIn a.records.now (a.j * 32))),
+      rw (with-page c, number, loop.invariant.2, add-one loop.m, count_more loop.m (given_in a.records.now (a.j * 32))),
       ⊎_elim (λ w. omega arith) (λ w. omega arith) c.if2.branch,
     )
 
@@ -62,7 +62,7 @@ whole : (c : tie.After-loop invariant-loop decreases-loop) {count : ℕ}
     let p = c.before.before.before.before.before.Ending-at.result.last % 65536 in
     count ≡ c.before.loop.names + cond (eqb p 65535) 0 1
     → c.before.loop.low && (eqb p 65535 || ltb p (a.g.b * a.g.k)) && (not (eqb p 65535) || eqb c.before.loop.names 0) ≡ true
-    → Plain (layout_of a.g) (recordAt (layout_of a.g) a.records.now a.j) count
+    → Plain (layout_of a.g) (record_at (layout_of a.g) a.records.now a.j) count
 whole c counted t =
     let start = c.before.before.before.before.before.before.before.before in
     let (olds, last) = c.before.before.before.before.before.Ending-at.ensures in
@@ -78,8 +78,8 @@ whole c counted t =
     (omega (arith, last.sum, last.first))
     (clear start.args.records.now (start.args.j * 32) (fits start) bytes olds last)
     (sym (rw all at loop.invariant.1) ∙ low)
-    (parity-low _ _ page)
-    (λ q. sym names ∙ no-parity _ _ without q))
+    (parity_low _ _ page)
+    (λ q. sym names ∙ no_parity _ _ without q))
 
 returns-2 : tie.Need-returns-2 invariant-loop decreases-loop
 returns-2 c t =

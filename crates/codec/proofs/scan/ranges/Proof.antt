@@ -4,7 +4,7 @@ use native.Mathlib.Omega.{arith}
 use mathlib.Core.Path.{◌≡◌}
 use Rattle.codec.specs.Scan.{Ranges}
 use Rattle.codec.proofs.Sizes.{bounded}
-use Rattle.codec.proofs.Tops.{tops-none, tops-more}
+use Rattle.codec.proofs.Tops.{tops_none, tops_more}
 use Rattle.codec.proofs.scan.ranges.Statement.{statement}
 use Rattle.codec.proofs.scan.ranges.Tie as tie
 
@@ -15,7 +15,7 @@ abbrev decreases-loop : tie.decreases-loop
 decreases-loop n pages tops₀ m₀ tops m = n - m
 
 loop-holds : tie.Need-loop-init invariant-loop decreases-loop
-loop-holds c = (omega arith, tops-none)
+loop-holds c = (omega arith, tops_none)
 
 -- a member has a place among the eight
 member : (c : tie.In-loop invariant-loop decreases-loop) → c.before.loop.m < 8
@@ -37,5 +37,5 @@ ranges-spec =
     (λ c. member c)
     (λ c. omega (arith, member c))
     (λ c. omega arith)
-    (λ c. (omega arith, tops-more c.before.loop.invariant.1 (member c)))
+    (λ c. (omega arith, tops_more c.before.loop.invariant.1 (member c)))
     returns)

@@ -6,14 +6,14 @@ use borrow.Author.Rules.{rules}
 use borrow.Author.Tests.{ltb-true}
 use Rattle.ranges.proofs.Tests.{and_both}
 use Rattle.codec.proofs.Sizes.{bounded}
-use Rattle.codec.proofs.Offsets.{record-within}
+use Rattle.codec.proofs.Offsets.{record_within}
 use Rattle.codec.proofs.Glances.{full}
 use Rattle.codec.proofs.scan.seen_full.Statement.{statement}
 use Rattle.codec.proofs.scan.seen_full.Tie as tie
 
 -- the record ends within the image
 fits : (c : tie.Start) → c.args.j * 32 + 32 ≤ length c.args.records.now
-fits c = record-within c.args.g c.args.records.now c.pre.0 c.args.j (omega (arith, c.pre.1))
+fits c = record_within c.args.g c.args.records.now c.pre.0 c.args.j (omega (arith, c.pre.1))
 
 returns : tie.Need-returns
 returns c t =
@@ -26,7 +26,7 @@ returns c t =
     (omega (arith, last.sum, last.first))
     (c.before.before.is-clear.ensures clear start.args.records.now (start.args.j * 32) (fits start) bytes olds last)
     (ltb-true _ _ low)
-    (rw c.all-written.ensures at all)
+    (rw c.all_written.ensures at all)
 
 pub seen-full-spec : {M : Type 1} → statement M
 seen-full-spec =

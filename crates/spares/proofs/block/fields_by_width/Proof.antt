@@ -5,7 +5,7 @@ use mathlib.Core.Path.{◌≡◌}
 use lib.ListN.{length, get_or, length-set}
 use Rattle.layout.specs.Layout.{layout_of}
 use Rattle.layout.proofs.Limits.{within}
-use Rattle.spares.specs.Scans.{fieldOf}
+use Rattle.spares.specs.Scans.{field_of}
 use Rattle.codec.proofs.Fetching.{Filled, fill_start, fill_more}
 use Rattle.spares.proofs.block.fields_by_width.Statement.{statement}
 use Rattle.spares.proofs.block.fields_by_width.Tie as tie
@@ -13,7 +13,7 @@ use Rattle.spares.proofs.block.fields_by_width.Tie as tie
 abbrev invariant-loop : tie.invariant-loop
 invariant-loop g width c count tags stripes fields₀ chip i₀ fields i =
     (i ≤ count) × (length fields ≡ 128)
-    × Filled (λ m f. f ≡ fieldOf (layout_of g) c (get_or tags m 0) (get_or stripes m 0)) fields i
+    × Filled (λ m f. f ≡ field_of (layout_of g) c (get_or tags m 0) (get_or stripes m 0)) fields i
 
 abbrev decreases-loop : tie.decreases-loop
 decreases-loop g width c count tags stripes fields₀ chip i₀ fields i = count - i
@@ -24,7 +24,7 @@ places c = omega (arith, c.before.before.requires.3)
 
 cast-chip : tie.Need-overflow-cast-chip invariant-loop decreases-loop
 cast-chip c =
-    let few = (within (layout_of c.args.g) c.requires.0).members-high in
+    let few = (within (layout_of c.args.g) c.requires.0).members_high in
     record { fits = omega arith }
 
 field-of-requires : tie.Need-field-of-requires invariant-loop decreases-loop

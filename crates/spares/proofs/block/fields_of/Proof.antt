@@ -15,7 +15,7 @@ fields-by-width-requires-5 c κs =
     let s = c.before.before in
     let n = within (layout_of s.args.g) s.requires.0 in
     let d = c.before.match.rest in
-    let six : s.args.g.n ≡ 6 = omega (arith, n.members-low, n.members-high, d.1, d.0.1, d.0.0.1, d.0.0.0.1) in
+    let six : s.args.g.n ≡ 6 = omega (arith, n.members_low, n.members_high, d.1, d.0.1, d.0.0.1, d.0.0.0.1) in
     (s.requires.0, omega arith, s.requires.1, s.requires.2, s.requires.3)
 
 pub fields-of-spec : {M : Type 1} → statement M

@@ -6,13 +6,13 @@ use native.Mathlib.Omega.{arith}
 use mathlib.Core.Path.{◌≡◌, refl}
 use Rattle.ranges.specs.Look.{all_below}
 use Rattle.layout.specs.Layout.{layout_of}
-use Rattle.spares.proofs.Scanning.{freeTag, usedTag, fill-tags}
+use Rattle.spares.proofs.Scanning.{free_tag, used_tag, fill_tags}
 use Rattle.spares.proofs.block.fill_of.Statement.{statement}
 use Rattle.spares.proofs.block.fill_of.Tie as tie
 
 abbrev invariant-loop : tie.invariant-loop
 invariant-loop o tags k clean₀ full₀ i₀ clean full i =
-    (i ≤ k) × (clean ≡ all_below i (freeTag tags o)) × (full ≡ all_below i (usedTag tags o))
+    (i ≤ k) × (clean ≡ all_below i (free_tag tags o)) × (full ≡ all_below i (used_tag tags o))
 
 abbrev decreases-loop : tie.decreases-loop
 decreases-loop o tags k clean₀ full₀ i₀ clean full i = k - i
@@ -34,7 +34,7 @@ loop-again c =
 returns : tie.Need-returns invariant-loop decreases-loop
 returns c x b first stripes here f =
     let all : c.before.loop.i ≡ c.before.before.args.g.k = omega arith in
-    rw (c.before.loop.invariant.1, c.before.loop.invariant.2, all) (fill-tags (layout_of c.before.before.args.g) b c.before.before.args.o first here f)
+    rw (c.before.loop.invariant.1, c.before.loop.invariant.2, all) (fill_tags (layout_of c.before.before.args.g) b c.before.before.args.o first here f)
 
 pub fill-of-spec : {M : Type 1} → statement M
 fill-of-spec =

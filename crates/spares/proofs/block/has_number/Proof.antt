@@ -2,30 +2,30 @@
 use native.Mathlib.Omega.{arith}
 use borrow.Author.Rules.{rules}
 use borrow.Author.Tests.{eq-eqb, ne_eqb}
-use Rattle.spares.specs.Scans.{hasNumber}
+use Rattle.spares.specs.Scans.{has_number}
 use Rattle.spares.proofs.block.has_number.Statement.{statement}
 use Rattle.spares.proofs.block.has_number.Tie as tie
 
 returns : tie.Need-returns
-unfolding hasNumber
+unfolding has_number
 returns c = rw (eq-eqb c.before.before.args.field 255 c.if1.true)
 
 returns-2 : tie.Need-returns-2
-unfolding hasNumber
+unfolding has_number
 returns-2 c =
     let a = c.before.before.before.before.args in
     let n = c.before.number_in in
     rw (ne_eqb a.field 255 c.before.before.if1.false, ← n.ensures.0, eq-eqb n.result a.p c.if2.true)
 
 returns-3 : tie.Need-returns-3
-unfolding hasNumber
+unfolding has_number
 returns-3 c =
     let a = c.before.before.before.before.before.args in
     let n = c.before.before.number_in in
     rw (ne_eqb a.field 255 c.before.before.before.if1.false, ← n.ensures.0, ne_eqb n.result a.p c.before.if2.false, eq-eqb a.field 12 c.if3.true)
 
 returns-4 : tie.Need-returns-4
-unfolding hasNumber
+unfolding has_number
 returns-4 c =
     let a = c.before.before.before.before.before.before.args in
     let n = c.before.before.before.number_in in

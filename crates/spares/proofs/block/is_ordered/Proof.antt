@@ -7,12 +7,12 @@ use mathlib.Core.Path.{◌≡◌, refl, ◌∙◌}
 use Rattle.ranges.specs.Look.{all_below}
 use Rattle.layout.specs.Layout.{layout_of}
 use Rattle.layout.proofs.Limits.{within}
-use Rattle.spares.proofs.Scanning.{orderTag, order-tags}
+use Rattle.spares.proofs.Scanning.{order_tag, order_tags}
 use Rattle.spares.proofs.block.is_ordered.Statement.{statement}
 use Rattle.spares.proofs.block.is_ordered.Tie as tie
 
 abbrev invariant-loop : tie.invariant-loop
-invariant-loop o tags last ordered₀ i₀ ordered i = (i ≤ last) × (ordered ≡ all_below i (orderTag tags o))
+invariant-loop o tags last ordered₀ i₀ ordered i = (i ≤ last) × (ordered ≡ all_below i (order_tag tags o))
 
 abbrev decreases-loop : tie.decreases-loop
 decreases-loop o tags last ordered₀ i₀ ordered i = last - i
@@ -32,7 +32,7 @@ loop-again c = (omega arith, rw (add-one, c.before.before.before.before.before.l
 returns : tie.Need-returns invariant-loop decreases-loop
 returns c x b first stripes here f =
     let last : c.before.loop.i ≡ c.before.before.args.g.k - 1 = omega arith in
-    c.before.loop.invariant.1 ∙ rw last (order-tags (layout_of c.before.before.args.g) b c.before.before.args.o first here f)
+    c.before.loop.invariant.1 ∙ rw last (order_tags (layout_of c.before.before.args.g) b c.before.before.args.o first here f)
 
 pub is-ordered-spec : {M : Type 1} → statement M
 is-ordered-spec =
@@ -40,7 +40,7 @@ is-ordered-spec =
     (tie.spec
     invariant-loop
     decreases-loop
-    (λ c. omega (arith, (within (layout_of c.args.g) c.requires.0).places-low))
+    (λ c. omega (arith, (within (layout_of c.args.g) c.requires.0).places_low))
     loop-holds
     (λ c. omega (arith, places c))
     (λ c. omega (arith, places c))

@@ -1,0 +1,19 @@
+-- One number after the other.
+use borrow.Author.Tests.{eq-eqb, ne_eqb}
+use Rattle.ticket_log.proofs.origin_numbered.Statement.{statement}
+use Rattle.ticket_log.proofs.origin_numbered.Tie as tie
+
+returns : tie.Need-returns
+returns c = rw (eq-eqb _ _ c.if1.true)
+
+returns-2 : tie.Need-returns-2
+returns-2 c = rw (ne_eqb _ _ c.before.if1.false, eq-eqb _ _ c.if2.true)
+
+returns-3 : tie.Need-returns-3
+returns-3 c = rw (ne_eqb _ _ c.before.before.if1.false, ne_eqb _ _ c.before.if2.false, eq-eqb _ _ c.if3.true)
+
+returns-4 : tie.Need-returns-4
+returns-4 c = rw (ne_eqb _ _ c.before.before.if1.false, ne_eqb _ _ c.before.if2.false, ne_eqb _ _ c.if3.false)
+
+pub origin-numbered-spec : {M : Type 1} → statement M
+origin-numbered-spec = tie.close (tie.spec returns returns-2 returns-3 returns-4)

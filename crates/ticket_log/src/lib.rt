@@ -1,0 +1,454 @@
+//! The log of tickets in the pages of a store, walked from its beginning to its end.
+
+ghost use Rattle.std.specs.Prelude.{◌≡◌, true, false, cond, ℕ, ◌+◌, ◌*◌, ◌/◌, ◌≤◌, ◌<◌, length};
+ghost use Rattle.octets.specs.Number.{number};
+ghost use Rattle.octets.specs.Units.{part, unit, unit_put};
+ghost use Rattle.ranges.specs.declared.Found.TheVariants.{At};
+ghost use Rattle.ranges.specs.Look.{all_below};
+ghost use Rattle.layout.specs.Layout.{layout_of, limits};
+ghost use Rattle.layout.specs.Record.{record_at};
+ghost use Rattle.steps.specs.Allowance.{images};
+ghost use Rattle.rules.specs.Sound.{record_sound};
+ghost use Rattle.rules.specs.Read.{fetch};
+ghost use Rattle.rules.specs.Log.{carried, contents};
+ghost use Rattle.rules.specs.Origins.{origin_numbered, greater as greater_of};
+ghost use Rattle.fetch.specs.Into.{is_direct};
+ghost use Rattle.rules.specs.Tickets.{ticket_bytes, ticket_of, ticket_sound, is_for};
+ghost use Rattle.codec.specs.Fit.{ChipsFit, RecordsFit, SlotsFit};
+ghost use Rattle.ticket_log.specs.Walks.{broken as brokenWalk, whole as wholeWalk, tickets_in, held_from, held_by, position_of, is_plain, PageShows, PageLooked, Walked};
+
+use answers::origin_number;
+use codec::parity_chip;
+use fetch::{Got, fetch_member, is_direct, lent};
+use layout::Geometry;
+use octets::{copy, number_at, number_of_four};
+use ranges::Found;
+use rules::{Origin, Standing, Ticket, Weight};
+
+// The bytes of a ticket.
+pub const TICKET: usize = 16;
+
+// The four bytes at offset a as a word.
+fn word(page: &[u8], a: usize) -> u32
+    requires { a + 4 ≤ length page.now }
+    ensures { result ≡ number (part a 4 page.now) }
+{
+    number_of_four(page, a) as u32
+}
+
+// Ticket i of a page.
+pub fn ticket_in(page: &[u8], i: usize) -> Ticket
+    requires { i * ticket_bytes + ticket_bytes ≤ length page.now }
+    ensures { result ≡ ticket_of (unit ticket_bytes i page.now) }
+{
+    let a = i * TICKET;
+    Ticket {
+        kind: page[a],
+        blank: page[a + 1],
+        bag: number_at(page, a + 2) as u16,
+        lot: word(page, a + 4),
+        gross: word(page, a + 8),
+        tare: word(page, a + 12),
+    }
+}
+
+// Ticket i of a page becomes these bytes.
+pub fn put_ticket(page: &mut [u8], i: usize, ticket: &[u8])
+    requires { (i * ticket_bytes + ticket_bytes ≤ length page.old) × (length ticket.now ≡ ticket_bytes) }
+    ensures { page.new ≡ unit_put ticket_bytes i ticket.now page.old }
+{
+    let start = i * TICKET;
+    let end = start + TICKET;
+    copy(&mut page[start..end], ticket);
+}
+
+// Whether a ticket keeps its rules. An empty one does not.
+pub fn is_sound(t: Ticket) -> bool
+    ensures { result ≡ ticket_sound t }
+{
+    ((t.kind == 1) | (t.kind == 2))
+        & (t.blank == 0)
+        & ((t.kind != 2) | ((t.gross == 0) & (t.tare == 0)))
+        & (t.tare <= t.gross)
+}
+
+// Whether a ticket is for the lot and bag.
+fn is_for(t: Ticket, lot: u32, bag: u16) -> bool
+    ensures { result ≡ is_for lot bag t }
+{
+    (t.lot == lot) & (t.bag == bag)
+}
+
+// The one number or the other.
+fn pick(test: bool, a: usize, b: usize) -> usize
+    ensures { result ≡ cond test a b }
+{
+    if test { a } else { b }
+}
+
+// What the tickets of a page show.
+#[derive(Drop)]
+struct Shown {
+    // so many of them are sound
+    kept: usize,
+    // the next one, if there is one, ends the log, or else breaks the rules
+    ended: bool,
+    // some of them are for the lot and bag, and this one is the latest
+    found: bool,
+    latest: usize,
+}
+
+// Whether ticket i of a page is sound and not for the lot and bag. It is looked at in words, without a branch, so that many are looked at in one go.
+fn is_plain(page: &[u8], i: usize, lot: u32, bag: u32) -> bool
+    requires { i * ticket_bytes + ticket_bytes ≤ length page.now }
+    ensures { result ≡ is_plain page.now lot bag i }
+{
+    let a = i * TICKET;
+    // kind, the zero byte, and behind them the bag
+    let first = word(page, a);
+    let kind = first % 65536;
+    let gross = word(page, a + 8);
+    ((kind == 1) | ((kind == 2) & (gross == 0)))
+        & (word(page, a + 12) <= gross)
+        & ((word(page, a + 4) != lot) | (first / 65536 != bag))
+}
+
+// Whether all tickets of a page are, as on nearly all pages of a log.
+fn all_plain(page: &[u8], lot: u32, bag: u32) -> bool
+    ensures { result ≡ all_below (length page.now / ticket_bytes) (is_plain page.now lot bag) }
+{
+    let per_page = page.len() / TICKET;
+    // one ticket takes less than to begin a loop over many
+    if per_page == 1 {
+        return is_plain(page, 0, lot, bag);
+    }
+    let mut plain = true;
+    for i in 0..per_page {
+        plain = plain & is_plain(page, i, lot, bag);
+    }
+    plain
+}
+
+// Looks at the tickets of a page. What is carried from one to the next are numbers alone, so that it stays in registers.
+fn look_at(page: &[u8], lot: u32, bag: u16) -> Shown
+    ensures { PageShows page.now lot bag result }
+{
+    let per_page = page.len() / TICKET;
+    if all_plain(page, lot, bag as u32) {
+        return Shown {
+            kept: per_page,
+            ended: true,
+            found: false,
+            latest: 0,
+        };
+    }
+    let mut found = false;
+    let mut latest = 0;
+    let mut i = 0;
+    while i < per_page {
+        let t = ticket_in(page, i);
+        if !is_sound(t) {
+            return Shown {
+                kept: i,
+                ended: t.kind == 0,
+                found,
+                latest,
+            };
+        }
+        let fits = is_for(t, lot, bag);
+        let later = pick(fits, i, latest);
+        found = found | fits;
+        latest = later;
+        i += 1;
+    }
+    Shown {
+        kept: i,
+        ended: true,
+        found,
+        latest,
+    }
+}
+
+// The latest ticket so far for the lot and bag, told by numbers of one width alone: between others the compiler moves the empty bytes too.
+#[derive(Drop)]
+struct Latest {
+    // 0 where there is none
+    kind: u32,
+    gross: u32,
+    tare: u32,
+    // the number of how its page was got
+    origin: u32,
+}
+
+// What stands after the tickets of a page that was got so.
+fn latest_of(page: &[u8], shown: Shown, origin: Origin, before: Latest) -> Latest
+    requires { shown.found ≡ true → shown.latest * ticket_bytes + ticket_bytes ≤ length page.now }
+    ensures { held_from result ≡ cond shown.found (held_by (tickets_in page.now shown.latest) origin) (held_from before) }
+{
+    if shown.found {
+        let t = ticket_in(page, shown.latest);
+        let kind = t.kind as u32;
+        let number = origin_number(origin) as u32;
+        return Latest {
+            kind,
+            gross: t.gross,
+            tare: t.tare,
+            origin: number,
+        };
+    }
+    before
+}
+
+// Of two origins the one of the greater number.
+fn greater(a: Origin, b: Origin) -> Origin
+    ensures { result ≡ greater_of a b }
+{
+    if origin_number(a) <= origin_number(b) {
+        return b;
+    }
+    a
+}
+
+// What it lets stand.
+fn standing_of(x: Latest) -> Standing
+    ensures { result ≡ (held_from x).standing }
+{
+    if x.kind == 1 {
+        return Standing::Weighed(Weight {
+            gross: x.gross,
+            tare: x.tare,
+        });
+    }
+    Standing::Nothing
+}
+
+// The origin of a number.
+fn origin_numbered(n: u32) -> Origin
+    ensures { result ≡ origin_numbered n }
+{
+    if n == 0 {
+        return Origin::Unwritten;
+    }
+    if n == 1 {
+        return Origin::Direct;
+    }
+    if n == 2 {
+        return Origin::Partial;
+    }
+    Origin::Full
+}
+
+// How it was got: a ticket that is given carries the origin of its page, any other reading the greatest.
+fn origin_of(x: Latest, greatest: Origin) -> Origin
+    ensures { result ≡ carried (held_from x).standing (held_from x).origin greatest }
+{
+    if x.kind == 1 {
+        return origin_numbered(x.origin);
+    }
+    greatest
+}
+
+// A logical page, where it stands.
+#[derive(Drop)]
+struct Position {
+    page: usize,
+    stripe: usize,
+    member: usize,
+    // the chip of the stripe's parity
+    parity: usize,
+}
+
+// The first page.
+fn first_page(g: Geometry) -> Position
+    requires { limits (layout_of g) ≡ true }
+    ensures { result ≡ position_of (layout_of g) 0 }
+{
+    Position {
+        page: 0,
+        stripe: 0,
+        member: 0,
+        parity: parity_chip(g, 0),
+    }
+}
+
+// The next page: a remainder is taken for a stripe and not for a page.
+fn next_page(g: Geometry, at: Position) -> Position
+    requires { (limits (layout_of g) ≡ true) × (at ≡ position_of (layout_of g) at.page) × (at.page < g.n * g.s) }
+    ensures { result ≡ position_of (layout_of g) (at.page + 1) }
+{
+    let member = at.member + 1;
+    if member < g.n as usize {
+        return Position {
+            page: at.page + 1,
+            stripe: at.stripe,
+            member,
+            parity: at.parity,
+        };
+    }
+    let stripe = at.stripe + 1;
+    Position {
+        page: at.page + 1,
+        stripe,
+        member: 0,
+        parity: parity_chip(g, stripe),
+    }
+}
+
+// A page that cannot be read off its chip is fetched to the work page.
+fn fetch_apart(
+    work: &mut [u8],
+    chips: &[u8],
+    records: &[u8],
+    slots: &[u8],
+    g: Geometry,
+    lost: usize,
+    at: Position,
+    direct: bool,
+) -> Got
+    requires { ChipsFit g chips.now × RecordsFit g records.now × SlotsFit g slots.now × (length work.old ≡ g.w)
+        × ((j : ℕ) → j < g.s → record_sound (layout_of g) (record_at (layout_of g) records.now j) ≡ true)
+        × (at ≡ position_of (layout_of g) at.page) × (at.page < g.n * g.s)
+        × (direct ≡ is_direct (layout_of g) (record_at (layout_of g) records.now at.stripe) lost at.stripe at.member) }
+    ensures { (result.reads ≡ (fetch (layout_of g) (images chips.now records.now slots.now) lost at.page).reads) × (result.reads ≤ 7)
+        × (result.origin ≡ (fetch (layout_of g) (images chips.now records.now slots.now) lost at.page).origin)
+        × (direct ≡ false → work.new ≡ contents (layout_of g) (images chips.now records.now slots.now) lost at.page) }
+{
+    if direct {
+        return Got {
+            reads: 1,
+            origin: Origin::Direct,
+        };
+    }
+    fetch_member(work, chips, records, slots, g, lost, at.stripe, at.member)
+}
+
+// A page of the log, looked at.
+#[derive(Drop)]
+struct Looked {
+    shown: Shown,
+    // pages read for it
+    reads: u64,
+    origin: Origin,
+    latest: Latest,
+}
+
+// Looks at a page: where it lies, if it can be read off its chip, and else in the work page.
+fn look_at_page(
+    work: &mut [u8],
+    chips: &[u8],
+    records: &[u8],
+    slots: &[u8],
+    g: Geometry,
+    lost: usize,
+    at: Position,
+    lot: u32,
+    bag: u16,
+    before: Latest,
+) -> Looked
+    requires { ChipsFit g chips.now × RecordsFit g records.now × SlotsFit g slots.now × (length work.old ≡ g.w)
+        × ((j : ℕ) → j < g.s → record_sound (layout_of g) (record_at (layout_of g) records.now j) ≡ true)
+        × (at ≡ position_of (layout_of g) at.page) × (at.page < g.n * g.s) }
+    ensures { PageLooked (layout_of g) (images chips.now records.now slots.now) lost lot bag at.page before result }
+{
+    let direct = is_direct(records, g, lost, at.stripe, at.parity, at.member);
+    let got = fetch_apart(work, chips, records, slots, g, lost, at, direct);
+    let page = lent(
+        chips, work, records, g, at.stripe, at.parity, at.member, direct,
+    );
+    let shown = look_at(page, lot, bag);
+    let origin = got.origin;
+    let latest = latest_of(page, shown, origin, before);
+    Looked {
+        shown,
+        reads: got.reads,
+        origin,
+        latest,
+    }
+}
+
+// What a walk of the log tells.
+#[derive(Drop)]
+pub struct Walk {
+    // no ticket before its end breaks the rules
+    pub sound: bool,
+    // the place of its end; a log that fills every page has none
+    pub end: Found,
+    pub reads: u64,
+    // what stands for the lot and bag
+    pub standing: Standing,
+    // how its page was got; where nothing stands, the greatest origin of the pages up to the log's end
+    pub origin: Origin,
+}
+
+// A log with a ticket that breaks the rules.
+fn broken() -> Walk
+    ensures { result ≡ brokenWalk }
+{
+    Walk {
+        sound: false,
+        end: Found::Nothing,
+        reads: 0,
+        standing: Standing::Nothing,
+        origin: Origin::Unwritten,
+    }
+}
+
+// A log whose tickets are sound, with the greatest origin of its pages.
+fn whole(end: Found, reads: u64, latest: Latest, greatest: Origin) -> Walk
+    ensures { result ≡ wholeWalk end reads latest greatest }
+{
+    Walk {
+        sound: true,
+        end,
+        reads,
+        standing: standing_of(latest),
+        origin: origin_of(latest, greatest),
+    }
+}
+
+// Walks the log page by page.
+pub fn walk_log(
+    work: &mut [u8],
+    chips: &[u8],
+    records: &[u8],
+    slots: &[u8],
+    g: Geometry,
+    lost: usize,
+    lot: u32,
+    bag: u16,
+) -> Walk
+    requires { ChipsFit g chips.now × RecordsFit g records.now × SlotsFit g slots.now × (length work.old ≡ g.w)
+        × ((j : ℕ) → j < g.s → record_sound (layout_of g) (record_at (layout_of g) records.now j) ≡ true) }
+    ensures { Walked (layout_of g) (images chips.now records.now slots.now) lost lot bag result }
+{
+    let per_page = work.len() / TICKET;
+    let pages = g.n as usize * g.s as usize;
+    let mut latest = Latest {
+        kind: 0,
+        gross: 0,
+        tare: 0,
+        origin: 0,
+    };
+    let mut reads = 0;
+    let mut greatest = Origin::Unwritten;
+    let mut at = first_page(g);
+    while at.page < pages {
+        let seen = look_at_page(work, chips, records, slots, g, lost, at, lot, bag, latest);
+        reads += seen.reads;
+        latest = seen.latest;
+        let origin = seen.origin;
+        let with_page = greater(greatest, origin);
+        greatest = with_page;
+        let shown = seen.shown;
+        if !shown.ended {
+            return broken();
+        }
+        if shown.kept < per_page {
+            let end = Found::At(at.page * per_page + shown.kept);
+            return whole(end, reads, latest, greatest);
+        }
+        let next = next_page(g, at);
+        at = next;
+    }
+    whole(Found::Nothing, reads, latest, greatest)
+}
