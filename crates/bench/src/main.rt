@@ -1,5 +1,7 @@
 //! The bench program of document 01: formats a small store, then obeys standard input line by line.
 
+#![tactic(auto)]
+
 ghost use Rattle.std.specs.Prelude.{◌≤◌};
 
 use commands::{Command, parse};

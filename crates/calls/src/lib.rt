@@ -1,6 +1,8 @@
 //! The calls of the store. Each answers what its definition says, for any numbers and any buffers: the look at the images, the refusal,
 //! the run.
 
+#![tactic(auto)]
+
 ghost use Rattle.std.specs.Prelude.{◌≡◌, [], ◌∷◌};
 ghost use Rattle.layout.specs.Layout.{layout_of};
 ghost use Rattle.rules.specs.declared.Refusal.TheVariants.{Request};

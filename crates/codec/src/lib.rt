@@ -1,6 +1,8 @@
 //! Pages, records and the collection record as they lie in their images, and where the pages of a stripe stand. All that knows
 //! offsets and lengths is in this crate.
 
+#![tactic(auto)]
+
 pub mod limits;
 pub mod put;
 pub mod scan;

@@ -1,5 +1,7 @@
 //! Collections: the end of one, which is also what open does of one that was cut; a whole one; room on a chip.
 
+#![tactic(auto)]
+
 ghost use Rattle.std.specs.Prelude.{◌≡◌, true, List, ℕ, ◌≤◌, ◌<◌, length};
 ghost use Rattle.layout.specs.Layout.{layout_of, no_chip, limits, pages};
 ghost use Rattle.layout.specs.Page.{page_at};

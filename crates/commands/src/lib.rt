@@ -1,5 +1,7 @@
 //! The commands of the bench program: what a line of its input asks for.
 
+#![tactic(auto)]
+
 ghost use Rattle.std.specs.Prelude.{◌≡◌, ◌+◌, ◌*◌, ◌≤◌, ◌<◌, get_or};
 ghost use Rattle.commands.specs.Parsing.{other, digit_value, digit_count, decimal_value, numbered, alone, filled, command_of};
 

@@ -1,5 +1,7 @@
 //! A commit as a whole: room on the parity chip, the place, and what is stored there.
 
+#![tactic(auto)]
+
 ghost use Rattle.std.specs.Prelude.{◌≡◌, true, ◌<◌, length};
 ghost use Rattle.layout.specs.Layout.{layout_of};
 ghost use Rattle.layout.specs.Rotation.{parity_chip};

@@ -1,5 +1,7 @@
 //! The first half of a collection: phase 1, the copies, phase 2.
 
+#![tactic(auto)]
+
 ghost use Rattle.std.specs.Prelude.{◌≡◌, true, List, [], ◌∷◌, ℕ, ◌≤◌, ◌<◌, length};
 ghost use Rattle.ranges.specs.declared.Found.TheVariants.{At};
 ghost use Rattle.layout.specs.Layout.{layout_of, pages};

@@ -1,5 +1,7 @@
 //! The cost of a commit, over the number of members in the bitmap.
 
+#![tactic(auto)]
+
 ghost use Rattle.std.specs.Prelude.{◌≡◌, true, ◌≤◌, ◌<◌};
 ghost use Rattle.layout.specs.Layout.{layout_of, limits};
 ghost use Rattle.layout.specs.Record.{Record};

@@ -1,5 +1,7 @@
 //! The four kinds of store, each under the allowance: one page program, block erase, slot or record.
 
+#![tactic(auto)]
+
 ghost use Rattle.std.specs.Prelude.{◌≡◌, true, List, [], ◌∷◌, ℕ, ◌+◌, ◌-◌, ◌^◌, ◌≤◌, ◌<◌, min, length};
 ghost use Rattle.layout.specs.Layout.{layout_of, pages};
 ghost use Rattle.steps.specs.Store.{program as programStore, erase as eraseStore, slot as slotStore, stripe, collection};

@@ -1,5 +1,7 @@
 //! One page of a stripe, fetched in its role: XORed into a buffer or copied, from the other chips where its own is lost.
 
+#![tactic(auto)]
+
 ghost use Rattle.std.specs.Prelude.{◌≡◌, ◌≢◌, true, cond, List, ℕ, ◌≤◌, ◌<◌, length};
 ghost use Rattle.octets.specs.Xor.{◌⊕◌};
 ghost use Rattle.layout.specs.Layout.{layout_of, limits, none, pages};

@@ -1,5 +1,7 @@
 //! The list of a format: every block erased, every record empty, phase 0.
 
+#![tactic(auto)]
+
 ghost use Rattle.std.specs.Prelude.{List, ℕ, ◌+◌};
 ghost use Rattle.layout.specs.Layout.{layout_of};
 ghost use Rattle.steps.specs.Steps.{steps_below};

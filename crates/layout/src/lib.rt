@@ -1,5 +1,7 @@
 //! The geometry of a store, as its caller gives it, and the chip that may be lost.
 
+#![tactic(auto)]
+
 // The lost chip where none is.
 pub const NO_CHIP: usize = 255;
 

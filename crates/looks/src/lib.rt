@@ -1,6 +1,8 @@
 //! The look at the images with which every call begins: what the rows of the table about them come to, and what the one pass over
 //! records and spares has found.
 
+#![tactic(auto)]
+
 ghost use Rattle.std.specs.Prelude.{◌≡◌, ◌*◌, ltb};
 ghost use Rattle.layout.specs.Layout.{layout_of};
 ghost use Rattle.rules.specs.declared.Check.TheVariants.{Passed};

@@ -1,5 +1,7 @@
 //! Which pages the records name.
 
+#![tactic(auto)]
+
 ghost use Rattle.std.specs.Prelude.{◌≡◌, ℕ, ◌≤◌, ◌<◌};
 ghost use Rattle.layout.specs.Layout.{layout_of, pages};
 ghost use Rattle.layout.specs.Page.{Page};

@@ -1,5 +1,7 @@
 //! Leaves over byte slices: numbers, fill, copy, XOR.
 
+#![tactic(auto)]
+
 ghost use Rattle.std.specs.Prelude.{◌≡◌, ◌+◌, ◌≤◌, ◌<◌, length, get_or, replicate, eqb};
 ghost use Rattle.octets.specs.Number.{number};
 ghost use Rattle.octets.specs.Units.{part};

@@ -1,5 +1,7 @@
 //! What a commit stores: the new parity page at its place, and the record.
 
+#![tactic(auto)]
+
 ghost use Rattle.std.specs.Prelude.{◌≡◌, true, ◌≤◌, ◌<◌, length};
 ghost use Rattle.octets.specs.Xor.{◌⊕◌};
 ghost use Rattle.layout.specs.Layout.{layout_of, pages};

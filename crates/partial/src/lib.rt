@@ -1,5 +1,7 @@
 //! What a write stores at its place: the page, the new partial parity in a free slot, the record.
 
+#![tactic(auto)]
+
 ghost use Rattle.std.specs.Prelude.{◌≡◌, true, ◌≤◌, ◌<◌, length};
 ghost use Rattle.layout.specs.Layout.{layout_of, pages};
 ghost use Rattle.layout.specs.Record.{record_at};

@@ -1,5 +1,7 @@
 //! What a search through a range of numbers answers, and the least by a measure.
 
+#![tactic(auto)]
+
 ghost use Rattle.std.specs.Prelude.{◌≡◌, Bool, true, cond, ℕ, ◌+◌, ◌≤◌};
 ghost use Rattle.ranges.specs.Look.{found_in, least_so_far};
 

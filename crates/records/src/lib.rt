@@ -1,5 +1,7 @@
 //! The checks of the records.
 
+#![tactic(auto)]
+
 ghost use Rattle.std.specs.Prelude.{◌≡◌, true, ℕ, ◌+◌, ◌≤◌, ◌<◌};
 ghost use Rattle.ranges.specs.Look.{first_below, found_in};
 ghost use Rattle.layout.specs.Layout.{layout_of, limits};

@@ -1,5 +1,7 @@
 //! What the calls of a store answer, and the words in which a page is asked for.
 
+#![tactic(auto)]
+
 use steps::Counts;
 
 // What a page of a stripe is to its record; members by number.

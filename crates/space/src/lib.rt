@@ -1,5 +1,7 @@
 //! Where a chip has room: the place of the next page, the block to collect, the block to copy to.
 
+#![tactic(auto)]
+
 ghost use Rattle.std.specs.Prelude.{◌≡◌};
 ghost use Rattle.ranges.specs.Look.{found_in};
 ghost use Rattle.layout.specs.Layout.{layout_of};

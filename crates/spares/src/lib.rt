@@ -1,5 +1,7 @@
 //! The checks of the spare bytes.
 
+#![tactic(auto)]
+
 pub mod block;
 pub mod phase;
 

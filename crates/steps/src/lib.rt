@@ -1,5 +1,7 @@
 //! What a call counts, and how far it is.
 
+#![tactic(auto)]
+
 #[derive(Drop)]
 pub struct Counts {
     // pages read, data or parity

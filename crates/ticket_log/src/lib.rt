@@ -1,5 +1,7 @@
 //! The log of tickets in the pages of a store, walked from its beginning to its end.
 
+#![tactic(auto)]
+
 ghost use Rattle.std.specs.Prelude.{◌≡◌, true, false, cond, ℕ, ◌+◌, ◌*◌, ◌/◌, ◌≤◌, ◌<◌, length};
 ghost use Rattle.octets.specs.Number.{number};
 ghost use Rattle.octets.specs.Units.{part, unit, unit_put};

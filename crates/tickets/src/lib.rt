@@ -1,5 +1,7 @@
 //! Tickets: one more at the end of the log, and what stands for a lot and bag.
 
+#![tactic(auto)]
+
 ghost use Rattle.std.specs.Prelude.{◌≡◌, true, ◌&&◌, [], ◌∷◌, ℕ, ◌<◌, eqb, length};
 ghost use Rattle.layout.specs.Layout.{layout_of};
 ghost use Rattle.layout.specs.Record.{record_at};

@@ -1,5 +1,7 @@
 //! The calls for C and Rust: slices as pointer and length, the answer as a struct of numbers.
 
+#![tactic(auto)]
+
 ghost use Rattle.std.specs.Prelude.{◌≡◌};
 ghost use Rattle.layout.specs.Layout.{layout_of};
 ghost use Rattle.steps.specs.Allowance.{images};

@@ -1,5 +1,7 @@
 //! A write as a whole: the commit that may be owed, room on the member's chip, the place, and what is stored there.
 
+#![tactic(auto)]
+
 ghost use Rattle.std.specs.Prelude.{◌≡◌, true, false, ℕ, ◌<◌, length, get_or};
 ghost use Rattle.ranges.specs.declared.Found.TheVariants.{At, Nothing};
 ghost use Rattle.ranges.specs.Look.{count_below, when_found, found_in};
