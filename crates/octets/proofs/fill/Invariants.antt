@@ -1,0 +1,9 @@
+-- After i turns the first i bytes of dst are those of a list of b as long as dst.
+use Prim.Native.Nat.{◌-◌, ◌<◌}
+use native.Mathlib.Omega.{arith}
+use lib.ListN.{length, replicate, length-replicate, get_or-replicate}
+use Rattle.octets.proofs.Lists.{Stored, stored_none, stored_more, stored_all}
+use Rattle.octets.proofs.fill.Given as goal
+
+abbrev pub invariant-loop-i : goal.invariant-loop-i
+invariant-loop-i l = Stored (replicate (length l.initial.dst) l.b) l.initial.dst l.i l.dst
