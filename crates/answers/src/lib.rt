@@ -15,7 +15,7 @@ use steps::{Counts, Progress};
 
 // 0 for done, 255 for cut, or the number of the refusal; and the counts.
 #[repr(C)]
-#[derive(Drop)]
+#[derive(Clone, Copy)]
 pub struct Report {
     pub status: u64,
     pub reads: u64,
@@ -26,7 +26,7 @@ pub struct Report {
 
 // The same of a read; then the number of how its page was got, of a refusal 0.
 #[repr(C)]
-#[derive(Drop)]
+#[derive(Clone, Copy)]
 pub struct ReadReport {
     pub status: u64,
     pub reads: u64,
@@ -38,7 +38,7 @@ pub struct ReadReport {
 
 // The same of a question; then 1 where a weight stands, and its grams, else zeros; then how the log's pages were got.
 #[repr(C)]
-#[derive(Drop)]
+#[derive(Clone, Copy)]
 pub struct FindReport {
     pub status: u64,
     pub reads: u64,

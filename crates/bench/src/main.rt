@@ -114,7 +114,7 @@ fn obey(chips: &mut [u8], records: &mut [u8], slots: &mut [u8], lost: u64, c: Co
 }
 
 // Whether the program goes on after a line, and with which chip lost.
-#[derive(Drop)]
+#[derive(Clone, Copy)]
 struct Turn {
     more: bool,
     lost: u64,

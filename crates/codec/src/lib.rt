@@ -78,7 +78,7 @@ pub const DATA: usize = 68;
 pub const PARITY: usize = 80;
 
 // The record of a stripe, but for the zeros behind it.
-#[derive(Drop)]
+#[derive(Clone, Copy)]
 pub struct StripeRecord {
     pub current: [usize; 6],
     pub old: [usize; 6],
@@ -88,7 +88,7 @@ pub struct StripeRecord {
 }
 
 // The collection record, but for the zeros behind it.
-#[derive(Drop)]
+#[derive(Clone, Copy)]
 pub struct CollectionRecord {
     pub phase: usize,
     pub chip: usize,
@@ -97,7 +97,7 @@ pub struct CollectionRecord {
 }
 
 // The spare bytes of a page, but for the tail.
-#[derive(Drop)]
+#[derive(Clone, Copy)]
 pub struct Spare {
     pub kind: usize,
     pub member: usize,

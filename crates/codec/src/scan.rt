@@ -139,7 +139,7 @@ fn all_written(records: &[u8], a: usize, tops: &[u16; 8]) -> bool
 }
 
 // How a record goes on behind its first eight numbers: two words.
-#[derive(Drop)]
+#[derive(Clone, Copy)]
 struct Ending {
     // the last four old numbers
     olds: usize,
@@ -179,7 +179,7 @@ pub fn seen_full(records: &[u8], g: Geometry, j: usize, tops: &[u16; 8]) -> bool
 }
 
 // What a second look at a record brings.
-#[derive(Drop)]
+#[derive(Clone, Copy)]
 pub struct Glance {
     // nothing is in the partial parity, and every number is one that may be there; where this is false, nothing is known
     pub plain: bool,

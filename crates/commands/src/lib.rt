@@ -5,7 +5,7 @@
 ghost use Rattle.std.specs.Prelude.{◌≡◌, ◌+◌, ◌*◌, ◌≤◌, ◌<◌, get_or};
 ghost use Rattle.commands.specs.Parsing.{other, digit_value, digit_count, decimal_value, numbered, alone, filled, command_of};
 
-#[derive(Drop)]
+#[derive(Clone, Copy)]
 pub struct Command {
     // w, r, c or x; 0 for any other line
     pub letter: u8,

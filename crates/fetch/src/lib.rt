@@ -30,7 +30,7 @@ use rules::{Origin, Role};
 const NO_MEMBER: usize = 6;
 
 // What a fetch tells, besides the bytes.
-#[derive(Drop)]
+#[derive(Clone, Copy)]
 pub struct Got {
     // pages read for it
     pub reads: u64,

@@ -7,7 +7,7 @@ pub const NO_CHIP: usize = 255;
 
 // Letters and limits are those of document 01; any numbers may be given.
 #[repr(C)]
-#[derive(Drop)]
+#[derive(Clone, Copy)]
 pub struct Geometry {
     // data pages to a stripe
     pub n: u64,

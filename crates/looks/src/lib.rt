@@ -19,7 +19,7 @@ use rules::{Check, Refusal};
 use spares::{ChipScan, scan_spares};
 
 // What the rows come to, and where they pass what was found.
-#[derive(Drop)]
+#[derive(Clone, Copy)]
 pub struct Look {
     pub check: Check,
     // of each chip but the lost one

@@ -17,7 +17,7 @@ use layout::Geometry;
 use ranges::ones;
 
 // The pages of a stripe on one chip: their numbers, the side number being an old page's or none, and their stamp.
-#[derive(Drop)]
+#[derive(Clone, Copy)]
 struct StripePages {
     main: usize,
     side: usize,

@@ -6,14 +6,14 @@ ghost use Rattle.std.specs.Prelude.{◌≡◌, Bool, true, cond, ℕ, ◌+◌, �
 ghost use Rattle.ranges.specs.Look.{found_in, least_so_far};
 
 // What a search answers.
-#[derive(Drop)]
+#[derive(Clone, Copy)]
 pub enum Found {
     At(usize),
     Nothing,
 }
 
 // The number of least measure among those passed that pass a test, and its measure; where none was found both are 0.
-#[derive(Drop)]
+#[derive(Clone, Copy)]
 pub struct Least {
     pub found: bool,
     pub at: usize,

@@ -97,7 +97,7 @@ fn collection_passes(g: Geometry, records: &[u8]) -> bool
 }
 
 // What the records tell of the slots.
-#[derive(Drop)]
+#[derive(Clone, Copy)]
 pub struct SlotScan {
     // how many records have one
     pub slotted: usize,
@@ -108,7 +108,7 @@ pub struct SlotScan {
 }
 
 // What a pass over the records brings.
-#[derive(Drop)]
+#[derive(Clone, Copy)]
 pub struct RecordsScan {
     pub sound: bool,
     // page numbers of all records on the chips that are there
@@ -117,7 +117,7 @@ pub struct RecordsScan {
 }
 
 // What is known of the records passed.
-#[derive(Drop)]
+#[derive(Clone, Copy)]
 struct Tally {
     // each is sound by itself
     sound: bool,

@@ -5,7 +5,7 @@
 use steps::Counts;
 
 // What a page of a stripe is to its record; members by number.
-#[derive(Drop)]
+#[derive(Clone, Copy)]
 pub enum Role {
     Current(usize),
     Old(usize),
@@ -13,7 +13,7 @@ pub enum Role {
 }
 
 // How the bytes of a page were got; document 02, 2: "one of four things", in its order.
-#[derive(Drop)]
+#[derive(Clone, Copy)]
 pub enum Origin {
     // never written: there is no page
     Unwritten,
@@ -26,7 +26,7 @@ pub enum Origin {
 }
 
 // The rows of document 01's table, "Where a call is turned back", named by its first column.
-#[derive(Drop)]
+#[derive(Clone, Copy)]
 pub enum Refusal {
     Geometry,
     Buffers,
@@ -45,14 +45,14 @@ pub enum Refusal {
 }
 
 // What the checks of a call come to.
-#[derive(Drop)]
+#[derive(Clone, Copy)]
 pub enum Check {
     Passed,
     Failed(Refusal),
 }
 
 // The answer of a call that stores.
-#[derive(Drop)]
+#[derive(Clone, Copy)]
 pub enum Answer {
     Done(Counts),
     Cut(Counts),
@@ -60,14 +60,14 @@ pub enum Answer {
 }
 
 // The answer of a read, which stores nothing and so is never cut.
-#[derive(Drop)]
+#[derive(Clone, Copy)]
 pub enum Reading {
     Done(Counts, Origin),
     Refused(Refusal),
 }
 
 // A ticket: 16 bytes, as document 02, 1 has them.
-#[derive(Drop)]
+#[derive(Clone, Copy)]
 pub struct Ticket {
     // 0 empty, 1 weight, 2 withdrawal
     pub kind: u8,
@@ -81,21 +81,21 @@ pub struct Ticket {
 }
 
 // A weight, in grams.
-#[derive(Drop)]
+#[derive(Clone, Copy)]
 pub struct Weight {
     pub gross: u32,
     pub tare: u32,
 }
 
 // What stands for a lot and bag.
-#[derive(Drop)]
+#[derive(Clone, Copy)]
 pub enum Standing {
     Weighed(Weight),
     Nothing,
 }
 
 // The answer of a question for a lot and bag, which stores nothing.
-#[derive(Drop)]
+#[derive(Clone, Copy)]
 pub enum Finding {
     Done(Counts, Standing, Origin),
     Refused(Refusal),

@@ -16,7 +16,7 @@ use codec::{DATA, PARITY};
 use layout::Geometry;
 
 // What a pass over the spares of a block brings.
-#[derive(Drop)]
+#[derive(Clone, Copy)]
 pub struct Scan {
     // no used page follows a clean one
     pub ordered: bool,
@@ -29,7 +29,7 @@ pub struct Scan {
 }
 
 // Whether all pages of a block are clean, and whether none is.
-#[derive(Drop)]
+#[derive(Clone, Copy)]
 struct Fill {
     clean: bool,
     full: bool,

@@ -25,7 +25,7 @@ use phase::phase_passes;
 use ranges::{Least, no_least, with_next};
 
 // What the blocks of a chip that were looked at bring.
-#[derive(Drop)]
+#[derive(Clone, Copy)]
 pub struct ChipScan {
     // all are in order
     pub ordered: bool,
@@ -38,7 +38,7 @@ pub struct ChipScan {
 }
 
 // What one look at every spare brings.
-#[derive(Drop)]
+#[derive(Clone, Copy)]
 pub struct Survey {
     pub sound: bool,
     // for each chip; of the lost one and of those that are not there, no block

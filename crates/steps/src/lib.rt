@@ -2,7 +2,7 @@
 
 #![tactic(auto)]
 
-#[derive(Drop)]
+#[derive(Clone, Copy)]
 pub struct Counts {
     // pages read, data or parity
     pub reads: u64,
@@ -15,7 +15,7 @@ pub struct Counts {
 }
 
 // A call under way. By value: every store takes it and gives it back.
-#[derive(Drop)]
+#[derive(Clone, Copy)]
 pub struct Progress {
     pub counts: Counts,
     // what is left of the allowance

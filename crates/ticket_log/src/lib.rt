@@ -89,7 +89,7 @@ fn pick(test: bool, a: usize, b: usize) -> usize
 }
 
 // What the tickets of a page show.
-#[derive(Drop)]
+#[derive(Clone, Copy)]
 struct Shown {
     // so many of them are sound
     kept: usize,
@@ -172,7 +172,7 @@ fn look_at(page: &[u8], lot: u32, bag: u16) -> Shown
 }
 
 // The latest ticket so far for the lot and bag, told by numbers of one width alone: between others the compiler moves the empty bytes too.
-#[derive(Drop)]
+#[derive(Clone, Copy)]
 struct Latest {
     // 0 where there is none
     kind: u32,
@@ -251,7 +251,7 @@ fn origin_of(x: Latest, greatest: Origin) -> Origin
 }
 
 // A logical page, where it stands.
-#[derive(Drop)]
+#[derive(Clone, Copy)]
 struct Position {
     page: usize,
     stripe: usize,
@@ -325,7 +325,7 @@ fn fetch_apart(
 }
 
 // A page of the log, looked at.
-#[derive(Drop)]
+#[derive(Clone, Copy)]
 struct Looked {
     shown: Shown,
     // pages read for it
@@ -369,7 +369,7 @@ fn look_at_page(
 }
 
 // What a walk of the log tells.
-#[derive(Drop)]
+#[derive(Clone, Copy)]
 pub struct Walk {
     // no ticket before its end breaks the rules
     pub sound: bool,

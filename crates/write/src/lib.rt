@@ -60,7 +60,7 @@ fn commit_victim(g: Geometry, scans: [ChipScan; 7], cheapest: Found) -> Found
 }
 
 // What the commit leaves that is owed before a write.
-#[derive(Drop)]
+#[derive(Clone, Copy)]
 struct Owed {
     run: Progress,
     // the lowest free slot, where the run is not cut

@@ -38,6 +38,7 @@ greater_right a b = by_test (leb (origin_number a) (origin_number b))
 
 none_above : (n : ℕ) (f : ℕ → Origin) (i : ℕ) → i < n → origin_number (f i) ≤ origin_number (greatest_origin n f)
 unfolding greatest_origin
+none_above zero f i h = elim h [ ]
 none_above (suc n) f i h = at_last i n (omega (arith, h))
     (λ less. le_trans (none_above n f i less) (greater_left (greatest_origin n f) (f n)))
     (λ same. rw same (greater_right (greatest_origin n f) (f n)))
@@ -48,6 +49,7 @@ OneOf n f o = (i : ℕ) × (i < n) × (f i ≡ o)
 
 one_of : (n : ℕ) (f : ℕ → Origin) → 0 < n → OneOf n f (greatest_origin n f)
 unfolding greatest_origin
+one_of zero f h = elim h [ ]
 one_of (suc zero) f h = (0, omega arith, rw (le-leb 0 (origin_number (f 0)) (omega arith)))
 one_of (suc (suc n)) f h =
     let (i, low, is) = one_of (suc n) f (omega arith) in

@@ -1,0 +1,55 @@
+-- The collection record is the 32 bytes behind the S records, so every read is inside, and the bytes and numbers read are its own.
+use native.Mathlib.Nat.{add-zero}
+use native.Mathlib.Omega.{arith}
+use Rattle.octets.proofs.Units.{get_d_unit, part_unit}
+use Rattle.layout.specs.Collection.{collection_of, collection_at}
+use Rattle.layout.specs.Images.{records_length}
+use Rattle.codec.proofs.collection_at.Goals as goal
+
+pub overflow_mul-a : goal.overflow_mul-a
+unfolding records_length
+overflow_mul-a c = omega arith
+
+pub byte-requires : goal.byte-requires
+unfolding records_length
+byte-requires c = omega arith
+
+pub overflow_add-a : goal.overflow_add-a
+unfolding records_length
+overflow_add-a c = omega arith
+
+pub byte-requires-2 : goal.byte-requires-2
+unfolding records_length
+byte-requires-2 c = omega arith
+
+pub overflow_add-a-2 : goal.overflow_add-a-2
+unfolding records_length
+overflow_add-a-2 c = omega arith
+
+pub number_at-requires : goal.number_at-requires
+unfolding records_length
+number_at-requires c = omega arith
+
+pub overflow_add-a-3 : goal.overflow_add-a-3
+unfolding records_length
+overflow_add-a-3 c = omega arith
+
+pub number_at-requires-2 : goal.number_at-requires-2
+unfolding records_length
+number_at-requires-2 c = omega arith
+
+pub returns : goal.returns
+unfolding collection_at collection_of
+returns c =
+    let s = c.args.g.s in
+    let xs = c.args.records.now in
+    record {
+      phase = rw (get_d_unit 32 s 0 0 xs (omega arith), add-zero) c.byte.ensures.0;
+      chip = rw (get_d_unit 32 s 1 0 xs (omega arith)) c.byte-2.ensures.0;
+      victim = rw (part_unit 32 s 2 2 xs (omega arith)) c.number_at.ensures.0;
+      destination = rw (part_unit 32 s 4 2 xs (omega arith)) c.number_at-2.ensures.0;
+      phase_small = c.byte.ensures.1;
+      chip_small = c.byte-2.ensures.1;
+      victim_small = c.number_at.ensures.1;
+      destination_small = c.number_at-2.ensures.1;
+    }

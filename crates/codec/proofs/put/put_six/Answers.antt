@@ -1,0 +1,20 @@
+use Prim.Native.Nat.{ℕ, ◌-◌, ◌≤◌}
+use native.Mathlib.Omega.{arith}
+use mathlib.Core.Path.{◌≡◌}
+use lib.ListN.{get_or}
+use Rattle.codec.proofs.Fills.{Numbers, numbers_none, numbers_more}
+use Rattle.codec.proofs.put.put_six.Goals as goal
+
+pub loop-m-init : goal.loop-m-init
+loop-m-init c = (omega arith, numbers_none c.args.a 2 _ c.args.dst.now)
+
+pub loop-m-preserved : goal.loop-m-preserved
+loop-m-preserved c = (omega arith, numbers_more c.loop-m.invariant.1 (omega arith) c.put_number.ensures)
+
+pub shape_of-dst : goal.shape_of-dst
+shape_of-dst c = c.loop-m.invariant.1.same
+
+pub returns : goal.returns
+returns c =
+    let past : c.loop-m.m ≡ 6 = omega arith in
+    rw past at c.loop-m.invariant.1.so_far

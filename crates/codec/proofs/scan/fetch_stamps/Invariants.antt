@@ -1,0 +1,17 @@
+-- The loop's invariant: the first i tags and stripes are those from the first spare on, one for each page.
+use Prim.Native.Nat.{◌+◌, ◌-◌, ◌*◌, ◌≤◌, ◌<◌}
+use native.Mathlib.Omega.{arith}
+use mathlib.Core.Path.{◌≡◌}
+use lib.ListN.{length, length-set}
+use Rattle.layout.specs.Layout.{layout_of}
+use Rattle.layout.proofs.Limits.{within}
+use Rattle.codec.proofs.Offsets.{page_high}
+use Rattle.codec.proofs.Fetching.{Filled, fill_start, fill_more, TagAt, StripeAt, spare_within, fetch_all}
+use Rattle.codec.proofs.scan.fetch_stamps.Given as goal
+
+abbrev pub invariant-loop-i : goal.invariant-loop-i
+invariant-loop-i l = (l.i ≤ l.count) × (length l.tags ≡ 128) × (length l.stripes ≡ 128)
+    × Filled (TagAt l.chips l.start (l.w + 8)) l.tags l.i × Filled (StripeAt l.chips l.start (l.w + 8)) l.stripes l.i
+
+abbrev pub decreases-loop-i : goal.decreases-loop-i
+decreases-loop-i l = l.count - l.i
