@@ -13,7 +13,7 @@ use Rattle.codec.proofs.Fetching.{OnChip, place_low}
 use Rattle.space.proofs.Blocks.{some_places, first_page, last_page, first_tells, open_tells}
 use Rattle.space.proofs.Searching.{begun_inside, room_inside, Searched, search_start, search_few, search_first, search_later, search_full, Answered, answer_begun, answer_none}
 use Rattle.space.proofs.place_on.Goals as goal
-use Rattle.space.proofs.place_on.Goals.{else-is_clean+else-is_clean-2, else-is_clean+then-is_clean-2+else-loop-i-test, else-search-test, then-is_clean, then-search-test+else-is_clean+then-is_clean-2+then-loop-i-test+then-is_clean-3}
+use Rattle.space.proofs.place_on.Goals.{else-clean-eq0, else-is_clean+else-is_clean-2, else-is_clean+then-is_clean-2+else-loop-i-test, else-search-test, then-clean-eq0, then-is_clean, then-search-test+else-is_clean+then-is_clean-2+then-loop-i-test+then-is_clean-3}
 
 -- the first and the last page of the block at hand
 first : (c : goal.In-search) → OnChip c.args.g (c.search.b * c.args.g.k)
@@ -92,14 +92,40 @@ search-preserved c =
     let clean = first_tells c.requires o.b low c.is_clean.ensures in (
       omega arith,
       elim c.if-is_clean.branch [
-      | then-is_clean w ↦ rw (w.found-is, w.clean-is, w.lowest-is) (⊎_elim
-          (λ v. rw v.1 (search_first o.invariant.1 (clean ∙ w.if-is_clean.true) v.0.taken))
-          (λ v. rw v.1 (search_later o.invariant.1 (clean ∙ w.if-is_clean.true) v.0.left))
-          w.if-clean-eq0.came)
-      | else-is_clean+then-is_clean-2+else-loop-i-test w ↦ room_inside l (page_at l c.args.chips.now c.args.c) o.b (some_places c.requires) (sym w.is_clean-else-is_clean.ensures ∙ w.if-is_clean-2.true) w.loop-i.i w.loop-i.inv.1 w.loop-i-test.false
+      | then-is_clean w ↦ rw (w.found-is, w.clean-is, w.lowest-is) (elim w.if-clean-eq0.branch [
+      | then-clean-eq0 v ↦ rw v.lowest-is (search_first o.invariant.1 (clean ∙ w.if-is_clean.true) v.if-clean-eq0.true)
+      | else-clean-eq0 v ↦ rw v.lowest-is (search_later o.invariant.1 (clean ∙ w.if-is_clean.true) v.if-clean-eq0.false)
+    ])
+      | else-is_clean+then-is_clean-2+else-loop-i-test w ↦ room_inside l (page_at l c.args.chips.now c.args.c) o.b (some_places c.requires) (sym w.is_clean-else-is_clean.ensures ∙ w.if-is_clean-2.true) w.loop-i.i w.loop-i.invariant.1 w.loop-i-test.false
       | else-is_clean+else-is_clean-2 w ↦ rw (w.found-is, w.clean-is, w.lowest-is) (search_full o.invariant.1 (clean ∙ w.if-is_clean.false) (rw (w.if-is_clean.false, w.if-is_clean-2.false) at (open_tells c.requires o.b low c.is_clean.ensures w.is_clean-else-is_clean.ensures)))
     ],
     )
+
+pub returns-in-At : goal.returns-in-At
+returns-in-At c =
+    let answered : let a = c.args in
+    let l = layout_of a.g in
+    Answered l (page_at l a.chips.now a.c) c.search-test.found c.search.clean c.search.lowest =
+        let o = c.search in
+        elim c.search-test.branch [
+          | else-search-test w ↦ rw w.found-is (answer_none o.invariant.1 (omega arith))
+          | then-search-test+else-is_clean+then-is_clean-2+then-loop-i-test+then-is_clean-3 w ↦ answer_begun o.invariant.1 w.loop-i.i w.found-is w.search-test.true (rw (w.if-is_clean.false, w.if-is_clean-2.true) at (open_tells c.requires o.b w.search-test.true w.is_clean.ensures w.is_clean-else-is_clean.ensures))
+        w.loop-i-test.true w.loop-i.invariant.1 (sym w.is_clean-in-loop-i.ensures ∙ w.if-is_clean-3.true)
+        ] in
+    answered.begun c.in-At.p c.in-At.is
+
+pub returns-then-clean-ge2 : goal.returns-then-clean-ge2
+returns-then-clean-ge2 c =
+    let answered : let a = c.args in
+    let l = layout_of a.g in
+    Answered l (page_at l a.chips.now a.c) c.search-test.found c.search.clean c.search.lowest =
+        let o = c.search in
+        elim c.search-test.branch [
+          | else-search-test w ↦ rw w.found-is (answer_none o.invariant.1 (omega arith))
+          | then-search-test+else-is_clean+then-is_clean-2+then-loop-i-test+then-is_clean-3 w ↦ answer_begun o.invariant.1 w.loop-i.i w.found-is w.search-test.true (rw (w.if-is_clean.false, w.if-is_clean-2.true) at (open_tells c.requires o.b w.search-test.true w.is_clean.ensures w.is_clean-else-is_clean.ensures))
+        w.loop-i-test.true w.loop-i.invariant.1 (sym w.is_clean-in-loop-i.ensures ∙ w.if-is_clean-3.true)
+        ] in
+    answered.fresh c.in-Nothing.is c.if-clean-ge2.true
 
 pub returns-else-clean-ge2 : goal.returns-else-clean-ge2
 returns-else-clean-ge2 c =
@@ -110,6 +136,6 @@ returns-else-clean-ge2 c =
         elim c.search-test.branch [
           | else-search-test w ↦ rw w.found-is (answer_none o.invariant.1 (omega arith))
           | then-search-test+else-is_clean+then-is_clean-2+then-loop-i-test+then-is_clean-3 w ↦ answer_begun o.invariant.1 w.loop-i.i w.found-is w.search-test.true (rw (w.if-is_clean.false, w.if-is_clean-2.true) at (open_tells c.requires o.b w.search-test.true w.is_clean.ensures w.is_clean-else-is_clean.ensures))
-        w.loop-i-test.true w.loop-i.inv.1 (sym w.is_clean-in-loop-i.ensures ∙ w.if-is_clean-3.true)
+        w.loop-i-test.true w.loop-i.invariant.1 (sym w.is_clean-in-loop-i.ensures ∙ w.if-is_clean-3.true)
         ] in
-    answered.begun c.found.given.0.0 c.found.given.1
+    answered.nowhere c.in-Nothing.is c.if-clean-ge2.false

@@ -5,6 +5,12 @@ use Rattle.space.specs.Victims.{victim_wanted}
 use Rattle.space.proofs.Victims.{victim_found}
 use Rattle.space.proofs.victim_on.Goals as goal
 
-pub scan_chip-requires : goal.scan_chip-requires
+pub returns-in-At : goal.returns-in-At
 unfolding victim_wanted when_found
-scan_chip-requires c = rw (← c.place_on.ensures, c.enum_told.given.1)
+returns-in-At c = rw (← c.place_on.ensures, c.in-At.is)
+
+pub returns : goal.returns
+unfolding victim_wanted when_found
+returns c =
+    rw (← c.place_on.ensures, c.in_default.is)
+    (c.victim_in.ensures ∙ victim_found c.requires.1 c.scan_chip.ensures)

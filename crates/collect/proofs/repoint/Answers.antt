@@ -1,0 +1,51 @@
+-- On the parity's chip the parity number is moved; else the numbers of the member on the chip. The arrays have six numbers each, as the
+-- value's type says.
+use native.Mathlib.Omega.{arith}
+use mathlib.Core.Path.{◌≡◌, sym, ◌∙◌}
+use lib.ListN.{length, length-map}
+use Rattle.layout.specs.Layout.{layout_of}
+use Rattle.collect.proofs.Repointing.{parity_moved, member_moved}
+use Rattle.collect.proofs.repoint.Goals as goal
+
+pub returns-then-c-parity : goal.returns-then-c-parity
+returns-then-c-parity c =
+    let a = c.args in
+    parity_moved (layout_of a.g) a.e a.c a.j a.p a.q c.requires.2 c.requires.3
+    (c.if-c-parity.true ∙ c.parity_chip-parity.ensures.0) c.moved.result c.moved.ensures
+
+pub member_on-m-requires : goal.member_on-m-requires
+member_on-m-requires c = (c.requires.0, c.requires.1, c.parity_chip-parity.ensures.1, c.if-c-parity.false)
+
+pub offset_bounds-e-m : goal.offset_bounds-e-m
+offset_bounds-e-m c = omega (arith, c.member_on-m.ensures.2)
+
+pub bounds-e-m : goal.bounds-e-m
+bounds-e-m c = c.member_on-m.ensures.2
+
+pub offset_bounds-next-m : goal.offset_bounds-next-m
+offset_bounds-next-m c = omega (arith, c.member_on-m.ensures.2)
+
+pub bounds-next-m : goal.bounds-next-m
+bounds-next-m c = c.member_on-m.ensures.2
+
+pub offset_bounds-e-m-2 : goal.offset_bounds-e-m-2
+offset_bounds-e-m-2 c = omega (arith, c.member_on-m.ensures.2)
+
+pub bounds-e-m-2 : goal.bounds-e-m-2
+bounds-e-m-2 c = c.member_on-m.ensures.2
+
+pub offset_bounds-next-m-2 : goal.offset_bounds-next-m-2
+offset_bounds-next-m-2 c = omega (arith, c.member_on-m.ensures.2)
+
+pub bounds-next-m-2 : goal.bounds-next-m-2
+bounds-next-m-2 c = c.member_on-m.ensures.2
+
+pub returns : goal.returns
+returns c =
+    let a = c.args in
+    let six : length a.e.current ≡ 6 = c.well_formed.1.0.1.1.0.1.0.1 in
+    let six_old : length a.e.old ≡ 6 = c.well_formed.1.0.1.1.1.0.1.0.1 in
+    member_moved (layout_of a.g) a.e a.c a.j a.p a.q c.requires.2 c.requires.3
+    (λ e. c.if-c-parity.false (e ∙ sym c.parity_chip-parity.ensures.0))
+    c.member_on-m.result c.moved-2.result c.moved-3.result (c.member_on-m.ensures.0 a.j c.parity_chip-parity.ensures.0) c.member_on-m.ensures.2 six six_old
+    c.moved-2.ensures c.moved-3.ensures
