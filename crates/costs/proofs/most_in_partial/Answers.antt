@@ -1,0 +1,7 @@
+-- The comparison is that of the definition.
+use native.Mathlib.Omega.{arith}
+use mathlib.Core.Path.{refl}
+use Rattle.costs.proofs.most_in_partial.Goals as goal
+
+pub returns : goal.returns
+returns c = refl

@@ -1,0 +1,15 @@
+-- The loop's invariant: whether all places below i are clean by their tags, and whether none is.
+use Prim.Native.Nat.{◌+◌, ◌-◌, ◌≤◌, ◌<◌}
+use native.Mathlib.Numerals.{add-one}
+use native.Mathlib.Omega.{arith}
+use mathlib.Core.Path.{◌≡◌, refl}
+use Rattle.ranges.specs.Look.{all_below}
+use Rattle.layout.specs.Layout.{layout_of}
+use Rattle.spares.proofs.Scanning.{free_tag, used_tag, fill_tags}
+use Rattle.spares.proofs.block.fill_of.Given as goal
+
+abbrev pub invariant-loop-i : goal.invariant-loop-i
+invariant-loop-i l = (l.i ≤ l.k) × (l.clean ≡ all_below l.i (free_tag l.tags l.o)) × (l.full ≡ all_below l.i (used_tag l.tags l.o))
+
+abbrev pub decreases-loop-i : goal.decreases-loop-i
+decreases-loop-i l = l.k - l.i

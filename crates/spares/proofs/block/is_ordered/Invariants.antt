@@ -1,0 +1,16 @@
+-- The loop's invariant: the places below i are in order by their tags.
+use Prim.Native.Nat.{◌+◌, ◌-◌, ◌≤◌, ◌<◌}
+use native.Mathlib.Numerals.{add-one}
+use native.Mathlib.Omega.{arith}
+use mathlib.Core.Path.{◌≡◌, refl, ◌∙◌}
+use Rattle.ranges.specs.Look.{all_below}
+use Rattle.layout.specs.Layout.{layout_of}
+use Rattle.layout.proofs.Limits.{within}
+use Rattle.spares.proofs.Scanning.{order_tag, order_tags}
+use Rattle.spares.proofs.block.is_ordered.Given as goal
+
+abbrev pub invariant-loop-i : goal.invariant-loop-i
+invariant-loop-i l = (l.i ≤ l.last) × (l.ordered ≡ all_below l.i (order_tag l.tags l.o))
+
+abbrev pub decreases-loop-i : goal.decreases-loop-i
+decreases-loop-i l = l.last - l.i

@@ -1,0 +1,39 @@
+use Prim.Native.Nat.{◌+◌, ◌-◌, ◌*◌, ◌≤◌}
+use native.Mathlib.Numerals.{add-one}
+use native.Mathlib.Omega.{arith}
+use mathlib.Core.Path.{◌≡◌, refl}
+use Rattle.ranges.specs.Look.{all_below}
+use Rattle.layout.specs.Layout.{layout_of}
+use Rattle.layout.specs.Record.{record_at}
+use Rattle.rules.specs.Blocks.{unnamed_in}
+use Rattle.rules.specs.Sound.{phase1_sound}
+use Rattle.codec.proofs.Fetching.{OnChip, start_low, place_low}
+use Rattle.spares.proofs.phase.phase1_passes.Goals as goal
+
+-- the place at hand is a page of the chip
+place : (c : goal.In-loop-i) → let a = c.args in
+    OnChip a.g (a.d * a.g.k + c.loop-i.i)
+place c = place_low c.args.g c.requires.0.chips_fit.limited c.args.d c.loop-i.i c.requires.1 c.loop-i-test.true
+
+pub overflow_mul-first : goal.overflow_mul-first
+overflow_mul-first c = omega (arith, start_low c.args.g c.requires.0.chips_fit.limited c.args.d (omega arith))
+
+pub loop-i-init : goal.loop-i-init
+unfolding all_below
+loop-i-init c = (omega arith, refl)
+
+pub overflow_add-first : goal.overflow_add-first
+overflow_add-first c = omega (arith, place c)
+
+pub named_at-requires : goal.named_at-requires
+named_at-requires c = (c.requires.0, (place c).0)
+
+pub loop-i-preserved : goal.loop-i-preserved
+unfolding all_below
+loop-i-preserved c = (omega arith, rw (add-one, c.loop-i.invariant.1, c.named_at.ensures))
+
+pub returns : goal.returns
+unfolding phase1_sound
+returns c =
+    let last : c.loop-i.i ≡ c.args.g.k = omega arith in
+    rw (c.loop-i.invariant.1, last)

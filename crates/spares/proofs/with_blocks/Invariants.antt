@@ -1,0 +1,24 @@
+-- The loop's invariant: what has been found of the blocks below b, whose pages stand in the arrays up to place o. A block is a candidate
+-- where it is full and has a page that is not named.
+use Prim.Native.Nat.{◌+◌, ◌-◌, ◌*◌, ◌≤◌}
+use native.Mathlib.Nat.{suc-mul, mul-le-mul_right}
+use native.Mathlib.Omega.{arith}
+use mathlib.Core.Path.{◌≡◌, refl}
+use Rattle.layout.specs.Layout.{layout_of}
+use Rattle.layout.specs.Page.{page_at}
+use Rattle.layout.specs.Record.{record_at}
+use Rattle.layout.proofs.Limits.{within}
+use Rattle.layout.proofs.Pages.{page_in_fits}
+use Rattle.codec.proofs.Fetching.{start_low}
+use Rattle.spares.specs.Scans.{block_scan, chip_scan}
+use Rattle.spares.proofs.Fields.{fields_fit}
+use Rattle.spares.proofs.Scanning.{together_end, together_in, stamps_fewer, fields_fewer, scan_few, scan_more}
+use Rattle.spares.proofs.with_blocks.Given as goal
+
+abbrev pub invariant-loop-b : goal.invariant-loop-b
+invariant-loop-b v = let l = layout_of v.g in
+    (v.b ≤ v.end) × (v.from * v.k + v.o ≡ v.b * v.k)
+    × (record { ordered = v.ordered; clean = v.clean; named = v.named; victim = v.victim } ≡ chip_scan l (record_at l v.records) (page_at l v.chips v.c) v.c v.b)
+
+abbrev pub decreases-loop-b : goal.decreases-loop-b
+decreases-loop-b l = l.end - l.b

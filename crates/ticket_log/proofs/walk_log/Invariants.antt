@@ -1,0 +1,23 @@
+-- The pages before the position neither end the log nor break its rules; the next one was looked at.
+use Prim.Native.Nat.{ℕ, ◌-◌, ◌*◌, ◌/◌, ◌≤◌, ◌<◌}
+use native.Mathlib.Nat.{mul-le-mul}
+use native.Mathlib.Omega.{arith}
+use mathlib.Core.Path.{◌≡◌, refl, sym, ap, ◌∙◌}
+use borrow.Author.Tests.{not-true, not-false}
+use lib.ListN.{length}
+use Rattle.layout.specs.Layout.{Layout, layout_of}
+use Rattle.layout.specs.Images.{Images}
+use Rattle.layout.proofs.Limits.{Within, within}
+use Rattle.steps.specs.Allowance.{images}
+use Rattle.rules.specs.Tickets.{ticket_bytes}
+use Rattle.rules.specs.Log.{per_page}
+use Rattle.ticket_log.specs.declared.Position.{Position}
+use Rattle.ticket_log.specs.Walks.{position_of}
+use Rattle.ticket_log.proofs.Walking.{Going, Next, going, next, goes_on, walk_ended, walk_broken, walk_full, pages_few}
+use Rattle.ticket_log.proofs.walk_log.Given as goal
+
+abbrev pub invariant-loop-at : goal.invariant-loop-at
+invariant-loop-at l = (length l.work ≡ l.g.w) × (l.at ≡ position_of (layout_of l.g) l.at.page) × Going (layout_of l.g) (images l.chips l.records l.slots) l.lost l.lot l.bag l.latest l.greatest l.reads l.at.page
+
+abbrev pub decreases-loop-at : goal.decreases-loop-at
+decreases-loop-at l = l.pages - l.at.page
