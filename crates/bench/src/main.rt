@@ -25,11 +25,15 @@ fn geometry() -> Geometry {
     }
 }
 
+fn say(rt: &impl Print, word: &[u8]) -> io::Result<()> {
+    rt.write_all(word)
+}
+
 fn say_number(rt: &impl Print, x: u64) -> io::Result<()> {
     print!(rt; " {x}")
 }
 
-fn say_byte(rt: &impl Print, x: u8) -> io::Result<()> {
+fn say_byte(rt: &impl Print, x: u64) -> io::Result<()> {
     print!(rt; " {x:02x}")
 }
 
@@ -40,7 +44,7 @@ fn say_counts(rt: &impl Print, c: Counts) -> io::Result<()> {
 }
 
 fn say_refusal(rt: &impl Print, r: Refusal) -> io::Result<()> {
-    print!(rt; " refused")?;
+    say(rt, b" refused")?;
     say_number(rt, answers::refusal_number(r))
 }
 
@@ -48,15 +52,19 @@ fn say_answer(rt: &impl Print, a: Answer) -> io::Result<()> {
     match a {
         Answer::Done(c) => say_counts(rt, c),
         Answer::Cut(c) => {
-            print!(rt; " cut")?;
+            say(rt, b" cut")?;
             say_counts(rt, c)
         }
         Answer::Refused(r) => say_refusal(rt, r),
     }
 }
 
-fn first(page: &[u8; 16]) -> u8 {
-    page[0]
+fn wide(b: u8) -> u64 {
+    b as u64
+}
+
+fn first(page: &[u8; 16]) -> u64 {
+    wide(page[0])
 }
 
 fn write(
@@ -158,9 +166,9 @@ fn obey_line(
         return Ok(Turn { more: false, lost });
     }
     let end = c.digits + 2;
-    rt.write_all(&line[0..end])?;
+    say(rt, &line[0..end])?;
     let now_lost = obey(rt, chips, records, slots, lost, c)?;
-    println!(rt)?;
+    say(rt, b"\n")?;
     Ok(Turn {
         more: true,
         lost: now_lost,

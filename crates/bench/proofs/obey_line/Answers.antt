@@ -17,7 +17,7 @@ overflow_add-end g c =
     let w = within c.args.buffer.now (c.args.n - 0) c.parse-c.result (omega arith) c.parse-c.ensures c.if-c-eq0.false in
     omega arith
 
-pub slice_bounds-write_all-end : goal.slice_bounds-write_all-end
-slice_bounds-write_all-end g c =
+pub slice_bounds-say-end : goal.slice_bounds-say-end
+slice_bounds-say-end g c =
     let w = within c.args.buffer.now (c.args.n - 0) c.parse-c.result (omega arith) c.parse-c.ensures c.if-c-eq0.false in
     omega (arith, w)
