@@ -1,7 +1,7 @@
 /*
  * A week of one page, and a weekend of tickets: how firmware calls the store. Build it with
  *
- *     gcc -Iinclude tests/c/example.c target/staticlib/libvazhettu.a
+ *     gcc -Iinclude tests/c/example.c crates/vazhettu/out/libvazhettu.a
  *
  * The page holds the weight of a bag, as text. Here the chips are an array; in a scale they are where the driver of the flash
  * has them, and records and slots are in battery-backed memory.

@@ -2,8 +2,8 @@
 //!
 //!     set_aside SOURCE FILE [EDIT]
 //!
-//! prints SOURCE, which is FILE of its crate (src/lib.rt). What rustc lacks is dropped (`ghost use`, `requires`, `ensures`), and what it asks for is added:
-//! plain data is `Copy`. The exports are plain functions, for slices do not cross the border to C in Rust.
+//! prints SOURCE, which is FILE of its crate (src/lib.rt). What rustc lacks is dropped: `ghost use`, `requires`, `ensures` and the attribute `tactic`.
+//! The exports are plain functions, for slices do not cross the border to C in Rust.
 //! An edit has lines `file:`, `old:` and `new:`, as those that the proof must refuse. What it says of other files is
 //! passed over; where it does not fit FILE, the program ends with status 3.
 
@@ -143,11 +143,9 @@ fn string_len(text: &str) -> Option<usize> {
 fn rust(code: &str) -> String {
     let mut text = String::new();
     for line in code.lines() {
-        let item = line.strip_prefix("pub ").unwrap_or(line);
-        if item.starts_with("struct ") || item.starts_with("enum ") {
-            text.push_str("#[derive(Clone, Copy)] ");
+        if !line.trim_start_matches(['#', '!']).starts_with("[tactic(") {
+            text.push_str(&line.replace("#[unsafe(no_mangle)]", "").replace("pub extern \"C\" fn", "pub fn"));
         }
-        text.push_str(&line.replace("#[no_mangle]", "").replace("pub extern \"C\" fn", "pub fn"));
         text.push('\n');
     }
     text

@@ -1,12 +1,14 @@
-//! The bench program of document 01: formats a small store, then obeys standard input line by line.
+//! The bench program of document 01: formats a small store, then obeys standard input line by line. A read or a write that
+//! fails ends it with that error.
 
 #![tactic(auto)]
 
-ghost use Rattle.std.specs.Prelude.{◌≤◌};
+ghost use Rattle.std.specs.Prelude.{◌≤◌, IfOk};
 
 use commands::{Command, parse};
 use layout::{Geometry, NO_CHIP};
 use rules::{Answer, Reading, Refusal};
+use std::io;
 use steps::Counts;
 
 const ALLOWANCE: u64 = 65535;
@@ -23,39 +25,37 @@ fn geometry() -> Geometry {
     }
 }
 
-fn say(word: &[u8]) {
-    io::write_all(1, word);
+fn say(rt: &impl Print, word: &[u8]) -> io::Result<()> {
+    rt.write_all(word)
 }
 
-fn say_number(x: u64) {
-    say(b" ");
-    io::print_decimal(1, x);
+fn say_number(rt: &impl Print, x: u64) -> io::Result<()> {
+    print!(rt; " {x}")
 }
 
-fn say_byte(x: u64) {
-    say(b" ");
-    io::print_hex(1, x, 2);
+fn say_byte(rt: &impl Print, x: u64) -> io::Result<()> {
+    print!(rt; " {x:02x}")
 }
 
-fn say_counts(c: Counts) {
-    say_number(c.reads);
-    say_number(c.programs);
-    say_number(c.erases);
+fn say_counts(rt: &impl Print, c: Counts) -> io::Result<()> {
+    say_number(rt, c.reads)?;
+    say_number(rt, c.programs)?;
+    say_number(rt, c.erases)
 }
 
-fn say_refusal(r: Refusal) {
-    say(b" refused");
-    say_number(answers::refusal_number(r));
+fn say_refusal(rt: &impl Print, r: Refusal) -> io::Result<()> {
+    say(rt, b" refused")?;
+    say_number(rt, answers::refusal_number(r))
 }
 
-fn say_answer(a: Answer) {
+fn say_answer(rt: &impl Print, a: Answer) -> io::Result<()> {
     match a {
-        Answer::Done(c) => say_counts(c),
+        Answer::Done(c) => say_counts(rt, c),
         Answer::Cut(c) => {
-            say(b" cut");
-            say_counts(c);
+            say(rt, b" cut")?;
+            say_counts(rt, c)
         }
-        Answer::Refused(r) => say_refusal(r),
+        Answer::Refused(r) => say_refusal(rt, r),
     }
 }
 
@@ -67,7 +67,15 @@ fn first(page: &[u8; 16]) -> u64 {
     wide(page[0])
 }
 
-fn write(chips: &mut [u8], records: &mut [u8], slots: &mut [u8], lost: u64, page: u64, byte: u8) {
+fn write(
+    rt: &impl Print,
+    chips: &mut [u8],
+    records: &mut [u8],
+    slots: &mut [u8],
+    lost: u64,
+    page: u64,
+    byte: u8,
+) -> io::Result<()> {
     let bytes = [byte; 16];
     let answer = calls::write(
         geometry(),
@@ -79,38 +87,59 @@ fn write(chips: &mut [u8], records: &mut [u8], slots: &mut [u8], lost: u64, page
         &bytes,
         ALLOWANCE,
     );
-    say_answer(answer);
+    say_answer(rt, answer)
 }
 
 // The line of a page that is read ends with how it was got: document 02, 2.
-fn read(chips: &[u8], records: &[u8], slots: &[u8], lost: u64, page: u64) {
+fn read(
+    rt: &impl Print,
+    chips: &[u8],
+    records: &[u8],
+    slots: &[u8],
+    lost: u64,
+    page: u64,
+) -> io::Result<()> {
     let mut bytes = [0u8; 16];
     let answer = calls::read(geometry(), chips, records, slots, lost, page, &mut bytes);
     match answer {
         Reading::Done(c, o) => {
-            say_byte(first(&bytes));
-            say_counts(c);
-            say_number(answers::origin_number(o));
+            say_byte(rt, first(&bytes))?;
+            say_counts(rt, c)?;
+            say_number(rt, answers::origin_number(o))
         }
-        Reading::Refused(r) => say_refusal(r),
+        Reading::Refused(r) => say_refusal(rt, r),
     }
 }
 
-fn commit(chips: &mut [u8], records: &mut [u8], slots: &[u8], lost: u64, stripe: u64) {
+fn commit(
+    rt: &impl Print,
+    chips: &mut [u8],
+    records: &mut [u8],
+    slots: &[u8],
+    lost: u64,
+    stripe: u64,
+) -> io::Result<()> {
     let answer = calls::commit(geometry(), chips, records, slots, lost, stripe, ALLOWANCE);
-    say_answer(answer);
+    say_answer(rt, answer)
 }
 
 // Obeys a command, and answers which chip is lost from here.
-fn obey(chips: &mut [u8], records: &mut [u8], slots: &mut [u8], lost: u64, c: Command) -> u64 {
+fn obey(
+    rt: &impl Print,
+    chips: &mut [u8],
+    records: &mut [u8],
+    slots: &mut [u8],
+    lost: u64,
+    c: Command,
+) -> io::Result<u64> {
     let letter = c.letter;
     match letter {
-        b'w' => write(chips, records, slots, lost, c.number, c.byte),
-        b'r' => read(chips, records, slots, lost, c.number),
-        b'c' => commit(chips, records, slots, lost, c.number),
-        _ => return c.number,
+        b'w' => write(rt, chips, records, slots, lost, c.number, c.byte)?,
+        b'r' => read(rt, chips, records, slots, lost, c.number)?,
+        b'c' => commit(rt, chips, records, slots, lost, c.number)?,
+        _ => return Ok(c.number),
     }
-    lost
+    Ok(lost)
 }
 
 // Whether the program goes on after a line, and with which chip lost.
@@ -121,75 +150,81 @@ struct Turn {
 }
 
 fn obey_line(
+    rt: &impl Print,
     chips: &mut [u8],
     records: &mut [u8],
     slots: &mut [u8],
     lost: u64,
     buffer: &[u8; 11],
     n: usize,
-) -> Turn
+) -> io::Result<Turn>
     requires { n ≤ 11 }
 {
     let line: &[u8] = buffer;
     let c = parse(&line[0..n]);
     if c.letter == 0 {
-        return Turn { more: false, lost };
+        return Ok(Turn { more: false, lost });
     }
     let end = c.digits + 2;
-    say(&line[0..end]);
-    let now_lost = obey(chips, records, slots, lost, c);
-    say(b"\n");
-    Turn {
+    say(rt, &line[0..end])?;
+    let now_lost = obey(rt, chips, records, slots, lost, c)?;
+    say(rt, b"\n")?;
+    Ok(Turn {
         more: true,
         lost: now_lost,
-    }
+    })
 }
 
 // The next byte of standard input, and a newline at its end: so a last line needs none, and the
 // empty line that then follows is no command.
-fn next_byte() -> u8 {
+fn next_byte(input: &mut impl io::Read) -> io::Result<u8> {
     let mut byte = [0u8; 1];
-    let got = libc::read(libc::STDIN_FILENO, &mut byte);
-    if got < 1 { b'\n' } else { byte[0] }
+    let got = input.read(&mut byte)?;
+    Ok(if got < 1 { b'\n' } else { byte[0] })
 }
 
 // Takes the bytes of a line up to its newline, eleven at most: no command has as many (`command_short` of `commands`).
-fn next_line(line: &mut [u8; 11]) -> usize
-    ensures { result ≤ 11 }
+fn next_line(input: &mut impl io::Read, line: &mut [u8; 11]) -> io::Result<usize>
+    ensures { IfOk result (λ n. n ≤ 11) }
 {
     let mut n = 0;
     while n < 11 {
-        let b = next_byte();
+        let b = next_byte(input)?;
         if b == b'\n' {
-            return n;
+            return Ok(n);
         }
         line[n] = b;
         n += 1;
     }
-    n
+    Ok(n)
 }
 
 // A proved loop has to end, and nothing says that standard input does. So the loop counts its
-// lines down, from a number that no run uses up.
-fn obey_all(chips: &mut [u8], records: &mut [u8], slots: &mut [u8]) {
+// lines, up to a number that no run reaches.
+fn obey_all(
+    rt: &impl Print,
+    input: &mut impl io::Read,
+    chips: &mut [u8],
+    records: &mut [u8],
+    slots: &mut [u8],
+) -> io::Result<()> {
     let mut line = [0u8; 11];
     let mut lost = NO_CHIP as u64;
-    let mut lines = u64::MAX;
-    while 0 < lines {
-        let n = next_line(&mut line);
-        let turn = obey_line(chips, records, slots, lost, &line, n);
+    for _ in 0..u64::MAX {
+        let n = next_line(input, &mut line)?;
+        let turn = obey_line(rt, chips, records, slots, lost, &line, n)?;
         if !turn.more {
-            return;
+            return Ok(());
         }
         lost = turn.lost;
-        lines -= 1;
     }
+    Ok(())
 }
 
-fn main() {
+fn main(rt: HostRuntime) -> io::Result<()> {
     let mut chips = [0u8; 1920];
     let mut records = [0u8; 224];
     let mut slots = [0u8; 48];
     calls::format(geometry(), &mut chips, &mut records, &slots, ALLOWANCE);
-    obey_all(&mut chips, &mut records, &mut slots);
+    obey_all(&rt, &mut rt.stdin(), &mut chips, &mut records, &mut slots)
 }
