@@ -1,0 +1,7 @@
+-- The report of the call's outcome.
+use mathlib.Core.Path.{ap}
+use Rattle.vazhettu.specs.Reports.{reported_of}
+use Rattle.vazhettu.proofs.vazhettu_commit.Goals as goal
+
+pub returns : goal.returns
+returns c = rw c.report_of.ensures (ap reported_of c.commit.ensures)
