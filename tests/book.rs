@@ -131,7 +131,7 @@ fn run(g: Geometry, images: &mut Images, lost: u64, call: &Call, allowance: u64)
     }
 }
 
-/// Request 3: no list is longer, as a collection copies at most K − 1 pages.
+/// No list is longer: a collection copies at most K − 1 pages.
 fn longest_list(g: Geometry, call: &Call) -> u64 {
     match call {
         Call::Open => g.k + 1,
@@ -287,18 +287,6 @@ impl Book {
         }
     }
 
-    /// Calls that name one chip, which has become other bytes. The origins that are said then.
-    fn second_list(&mut self, random: &mut Random) -> Vec<Said> {
-        let chip = random.below(self.g.n as usize + 1);
-        let len = self.g.shape().unwrap().chip_len();
-        random.fill(&mut self.images.chips[chip * len..(chip + 1) * len]);
-        for _ in 0..10 {
-            let call = self.random_call(random);
-            self.call(chip as u64, &call, random.below(20) as u64);
-        }
-        self.read_back(&self.images, chip as u64)
-    }
-
     /// The origins that are said.
     fn read_back(&self, images: &Images, lost: u64) -> Vec<Said> {
         let mut said = self.ask(images, lost);
@@ -402,7 +390,6 @@ fn price_book_over_two_lists() {
     let mut random = Random::new(2);
     let mut answers = std::collections::BTreeMap::new();
     let mut origins = std::collections::BTreeMap::new();
-    let mut longest = std::collections::HashSet::new();
     for round in 0..600 {
         let [n, w, k, b, s, m] = SMALL[round % SMALL.len()];
         let g = geometry(n, w, k, b, s, m);
@@ -411,20 +398,23 @@ fn price_book_over_two_lists() {
             let call = book.random_call(&mut random);
             let lost = if random.one_in(20) { random.below(n as usize + 1) as u64 } else { NO_CHIP };
             let allowance = if random.one_in(3) { random.below(20) as u64 } else { ALL };
-            let Status { status, stores, .. } = book.call(lost, &call, allowance);
-            if status == DONE && stores == longest_list(g, &call) {
-                longest.insert(std::mem::discriminant(&call));
-            }
+            let status = book.call(lost, &call, allowance).status;
             if let Call::Add(_) = call {
                 *answers.entry(status).or_insert(0) += 1;
             }
         }
         book.settle(&mut random);
-        for said in book.second_list(&mut random) {
+        let chip = random.below(n as usize + 1);
+        let len = g.shape().unwrap().chip_len();
+        random.fill(&mut book.images.chips[chip * len..(chip + 1) * len]);
+        for _ in 0..10 {
+            let call = book.random_call(&mut random);
+            book.call(chip as u64, &call, random.below(20) as u64);
+        }
+        for said in book.read_back(&book.images, chip as u64) {
             *origins.entry(said).or_insert(0) += 1;
         }
     }
-    assert_eq!(longest.len(), 5, "each call has come to its longest list");
     for number in [DONE, CUT, 6, 9, 11, 12] {
         assert!(answers[&number] >= 100, "additions by answer: {answers:?}");
     }

@@ -201,9 +201,8 @@ static void test_stores(void) {
 
 /* Nobody has written the buffers before the first format; the slots stay so until the store writes them. */
 static void test_format(void) {
-    const uint64_t stores = VAZHETTU_FORMAT_STORES(N, B, S);
-    expect(answers(vazhettu_format(g, STORE, stores - 1), VAZHETTU_CUT, 0, 0, 20, 26), "a format is cut one store early");
-    expect(answers(vazhettu_format(g, STORE, stores), VAZHETTU_DONE, 0, 0, 20, 27), "a format is done");
+    expect(answers(vazhettu_format(g, STORE, 26), VAZHETTU_CUT, 0, 0, 20, 26), "a format is cut one store early");
+    expect(answers(vazhettu_format(g, STORE, 27), VAZHETTU_DONE, 0, 0, 20, 27), "a format is done");
     expect(answers(vazhettu_open(g, STORE, NONE, 0), VAZHETTU_DONE, 0, 0, 0, 0), "an open has nothing to do");
     expect(reads_as(NONE, 23, 0, 0, UNWRITTEN), "a page never written reads zeros");
     page[0] = 7;
@@ -270,7 +269,7 @@ static void test_collect(void) {
 static void test_room(void) {
     for (uint8_t i = 0; i < 11; i++)
         expect(write_page(NONE, 1, i, ALL).erases == 0, "there is a place");
-    struct vazhettu_report r = write_page(NONE, 1, 0x3c, VAZHETTU_WRITE_STORES(K));
+    struct vazhettu_report r = write_page(NONE, 1, 0x3c, 4 * K + 13);
     expect(r.status == VAZHETTU_DONE && r.erases == 1 && r.stores > 3, "a write that finds no place collects");
     expect(reads_as(NONE, 1, 0x3c, 1, DIRECT) && reads_without(1, 1, 0x3c, 0, PARTIAL), "and is made");
     expect(reads_without(2, 2, 0x0f, 2, FULL), "page 2 is rebuilt from parity and the old page 1");
@@ -443,7 +442,7 @@ static void test_tickets_refused(void) {
 /* Pages 0 to 5 are full of tickets. */
 static void test_full_log(void) {
     for (int i = 12; i < N * S * 2; i++)
-        expect(weigh((uint16_t)(i % 3), (uint32_t)i, 0, VAZHETTU_WRITE_STORES(K)).status == VAZHETTU_DONE, "there is a place");
+        expect(weigh((uint16_t)(i % 3), (uint32_t)i, 0, 4 * K + 13).status == VAZHETTU_DONE, "there is a place");
     copy_store(&saved, &store);
     expect(refused(weigh(1, 1, 0, ALL), VAZHETTU_FULL_LOG), "a log that fills every page is full");
     expect(refused(weigh(1, 0, 1, ALL), VAZHETTU_BAD_TICKET), "which is asked last");

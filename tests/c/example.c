@@ -26,9 +26,6 @@ static uint8_t slots[VAZHETTU_SLOTS_LEN(W, M)];
 /* Page 6 is in stripe 6 / N, and stands on chip 2. */
 enum { PAGE = 6, STRIPE = PAGE / N, CHIP = 2 };
 
-/* What the capacitor of this board holds once it is charged: so many stores that no call but a format is ever cut. */
-#define CHARGED VAZHETTU_WRITE_STORES(K)
-
 /* The chip that is lost, if one is: named in every call from then on. */
 static uint64_t lost = VAZHETTU_NO_CHIP;
 
@@ -94,57 +91,57 @@ int main(void) {
     printf("Monday: a new store\n");
     say("format", vazhettu_format(STORE, VAZHETTU_NO_LIMIT));
     read_page();
-    write_page("60.14 kg", CHARGED);
+    write_page("60.14 kg", VAZHETTU_NO_LIMIT);
     read_page();
 
     printf("Tuesday: the power goes while the bag is weighed again\n");
     write_page("60.09 kg", 2);
     read_page(); /* a write that was cut is not made */
-    say("open", vazhettu_open(STORE, lost, CHARGED)); /* whenever power comes back */
-    write_page("60.09 kg", CHARGED);
+    say("open", vazhettu_open(STORE, lost, VAZHETTU_NO_LIMIT)); /* whenever power comes back */
+    write_page("60.09 kg", VAZHETTU_NO_LIMIT);
     read_page();
 
     printf("Wednesday: an idle hour, time for the parity page\n");
-    say("commit", vazhettu_commit(STORE, lost, STRIPE, CHARGED));
-    say("commit", vazhettu_commit(STORE, lost, STRIPE, CHARGED)); /* 10, no work: all is committed */
+    say("commit", vazhettu_commit(STORE, lost, STRIPE, VAZHETTU_NO_LIMIT));
+    say("commit", vazhettu_commit(STORE, lost, STRIPE, VAZHETTU_NO_LIMIT)); /* 10, no work: all is committed */
 
     printf("Thursday: the block is full, and the power goes while it is collected\n");
-    write_page("60.11 kg", CHARGED);
+    write_page("60.11 kg", VAZHETTU_NO_LIMIT);
     say("collect", vazhettu_collect(STORE, lost, CHIP, 3));
-    read_page();                                      /* reads work meanwhile */
-    write_page("60.12 kg", CHARGED);                  /* 6: a collection is under way */
-    say("open", vazhettu_open(STORE, lost, CHARGED)); /* takes it back, or finishes it */
-    say("collect", vazhettu_collect(STORE, lost, CHIP, CHARGED));
-    write_page("60.12 kg", CHARGED);
+    read_page();                                                /* reads work meanwhile */
+    write_page("60.12 kg", VAZHETTU_NO_LIMIT);                  /* 6: a collection is under way */
+    say("open", vazhettu_open(STORE, lost, VAZHETTU_NO_LIMIT)); /* takes it back, or finishes it */
+    say("collect", vazhettu_collect(STORE, lost, CHIP, VAZHETTU_NO_LIMIT));
+    write_page("60.12 kg", VAZHETTU_NO_LIMIT);
 
     printf("Friday: chip 2 is dead\n");
     memset(chips + CHIP * VAZHETTU_CHIP_LEN(W, K, B), 0xee, VAZHETTU_CHIP_LEN(W, K, B));
     read_page(); /* 5: the chips do not fit the records, one of them is to be named */
     lost = CHIP;
-    read_page();                     /* rebuilt without it, and it says so */
-    write_page("60.13 kg", CHARGED); /* 9: a write needs all chips */
+    read_page();                               /* rebuilt without it, and it says so */
+    write_page("60.13 kg", VAZHETTU_NO_LIMIT); /* 9: a write needs all chips */
 
     printf("Saturday: a new chip, a new store, and tickets in it\n");
     lost = VAZHETTU_NO_CHIP;
     say("format", vazhettu_format(STORE, VAZHETTU_NO_LIMIT));
-    weigh_bag(1, 60140, 140, CHARGED);
-    weigh_bag(2, 59870, 140, CHARGED);
-    weigh_bag(3, 60020, 150, CHARGED);
+    weigh_bag(1, 60140, 140, VAZHETTU_NO_LIMIT);
+    weigh_bag(2, 59870, 140, VAZHETTU_NO_LIMIT);
+    weigh_bag(3, 60020, 150, VAZHETTU_NO_LIMIT);
     withdraw_bag(2, 2); /* the power goes */
     find_bag(2);        /* an addition that was cut is not made: the log is as it was */
-    say("open", vazhettu_open(STORE, lost, CHARGED));
-    withdraw_bag(2, CHARGED);          /* so it is made again */
-    weigh_bag(4, 140, 60140, CHARGED); /* 11: tare is above gross */
+    say("open", vazhettu_open(STORE, lost, VAZHETTU_NO_LIMIT));
+    withdraw_bag(2, VAZHETTU_NO_LIMIT);          /* so it is made again */
+    weigh_bag(4, 140, 60140, VAZHETTU_NO_LIMIT); /* 11: tare is above gross */
     find_bag(1); /* off its chip */
-    say("commit", vazhettu_commit(STORE, lost, 0, CHARGED)); /* an idle hour again */
+    say("commit", vazhettu_commit(STORE, lost, 0, VAZHETTU_NO_LIMIT)); /* an idle hour again */
 
     printf("Sunday: chip 0 is dead, which had the ticket of bag 1\n");
     memset(chips, 0xee, VAZHETTU_CHIP_LEN(W, K, B));
     lost = 0;
-    find_bag(1);                       /* rebuilt without it */
-    find_bag(2);                       /* withdrawn: page 0 was rebuilt to know it */
-    find_bag(3);                       /* as it was weighed, off chip 2 */
-    find_bag(4);                       /* not in the log */
-    weigh_bag(4, 60140, 140, CHARGED); /* 9: an addition needs all chips */
+    find_bag(1);                                 /* rebuilt without it */
+    find_bag(2);                                 /* withdrawn: page 0 was rebuilt to know it */
+    find_bag(3);                                 /* as it was weighed, off chip 2 */
+    find_bag(4);                                 /* not in the log */
+    weigh_bag(4, 60140, 140, VAZHETTU_NO_LIMIT); /* 9: an addition needs all chips */
     return 0;
 }

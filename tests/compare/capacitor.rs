@@ -14,7 +14,6 @@
 use crate::book::Store;
 use crate::calls::{Call, Comparison};
 use crate::generator::{store_collection, store_spare, ALL};
-use crate::notes::most_stores;
 use crate::random::Random;
 use crate::reference::*;
 use crate::tickets::good_ticket;
@@ -77,7 +76,15 @@ impl Worked<'_> {
 
     /// It needs as many stores as any such call.
     fn needs(&mut self, figure: &str, call: &Call) {
-        self.takes(figure, most_stores(self.store.shape, call), call);
+        let Geometry { n, k, b, s, .. } = self.store.g;
+        let stores = match call {
+            Call::Format { .. } => (n + 1) * b + s + 1,
+            Call::Open { .. } => k + 2,
+            Call::Collect { .. } => 2 * k + 2,
+            Call::Commit { .. } => 2 * k + 4,
+            _ => 4 * k + 9,
+        };
+        self.takes(figure, stores, call);
     }
 
     /// So many stores are the least allowance with which the call is not cut.

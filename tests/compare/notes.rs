@@ -100,18 +100,17 @@ fn lengths_of(images: &Images) -> [usize; 3] {
 // Numbers
 // ---------------------------------------------------------------------------------------------
 
-/// The stores that include/vazhettu.h says a call needs at most.
-pub fn most_stores(shape: Shape, call: &Call) -> u64 {
+/// The stores that include/vazhettu.h says a call makes at most.
+fn most_stores(shape: Shape, call: &Call) -> usize {
     let Shape { n, k, b, s, .. } = shape;
-    let stores = match call {
+    match call {
         Call::Format { .. } => (n + 1) * b + s + 1,
         Call::Open { .. } => k + 2,
         Call::Read { .. } | Call::Find { .. } => 0,
-        Call::Write { .. } | Call::Add { .. } => 4 * k + 9,
-        Call::Commit { .. } => 2 * k + 4,
-        Call::Collect { .. } => 2 * k + 2,
-    };
-    stores as u64
+        Call::Write { .. } | Call::Add { .. } => 4 * k + 13,
+        Call::Commit { .. } => 2 * k + 6,
+        Call::Collect { .. } => 2 * k + 4,
+    }
 }
 
 /// "If the list is longer than the allowance it stops there and answers cut .. otherwise done".
@@ -123,7 +122,7 @@ fn note_allowance(
     status: Status,
 ) -> Result<(), String> {
     let (name, allowance) = (call.name(), call.allowance());
-    if length > most_stores(shape, call) {
+    if length > most_stores(shape, call) as u64 {
         return Err(format!("a list of {length} stores, longer than the header says"));
     }
     let expected = if allowance < length { CUT } else { DONE };

@@ -19,7 +19,7 @@ pub fn print(rows: &[Row]) {
     table(rows, "Blocks erased for each 1,000 pages written", |_, found| significant(found.erases * 1_000.0));
     table(
         rows,
-        "Longest write, in percent of the 4 K + 9 stores that a write makes at most",
+        "Longest write, in percent of the 4 K + 13 stores that a write makes at most",
         |setting, found| format!("{:.0}", found.most_stores as f64 * 100.0 / setting.most_stores() as f64),
     );
 }

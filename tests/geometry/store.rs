@@ -39,7 +39,7 @@ impl Setting {
 
     /// The stores that include/vazhettu.h says a write makes at most.
     pub fn most_stores(self) -> u64 {
-        4 * self.k + 9
+        4 * self.k + 13
     }
 }
 
