@@ -14,8 +14,6 @@ use Rattle.ranges.proofs.Looks.{by_order, by_same, all_at, all_true}
 use Rattle.ranges.proofs.Counts.{count_fail, count_cong, count_zero, count_all, count_positive}
 use Rattle.ranges.proofs.Tallies.{same_tests, count_from}
 use Rattle.ranges.proofs.Tests.{under, unless_equal}
-use Rattle.octets.specs.Number.{number}
-use Rattle.octets.specs.Units.{part}
 use Rattle.octets.proofs.Lists.{number_two}
 use Rattle.layout.specs.declared.Geometry.{Geometry}
 use Rattle.layout.specs.Layout.{layout_of, limits, none}

@@ -41,7 +41,7 @@ use Rattle.rules.proofs.Soundness.Accepted.{write_accepted, add_accepted, commit
 use Rattle.rules.proofs.Stores.Kept.{Kept}
 use Rattle.rules.proofs.Data.Carries.{Carries}
 use Rattle.rules.proofs.Space.Room.{victim_spares}
-use Rattle.rules.proofs.Lists.Lengths.{found_length, format_length, open_length, commit_at_length, write_at_length, copies_length, finish_length}
+use Rattle.rules.proofs.Lists.Needed.{found_length, format_length, open_length, commit_at_length, write_at_length, copies_length, finish_length}
 use Rattle.rules.proofs.Lists.CutRule.{CutRule, CutRules, cut_rules}
 use Rattle.rules.proofs.Lists.Copying.{Chosen, AllCopied, copies_lead}
 use Rattle.rules.proofs.Lists.Collecting.{destination, chosen_on, victim_collectable}

@@ -9,6 +9,7 @@ pub mod Filling
 pub mod Finish
 pub mod Fresh
 pub mod FreshSound
-pub mod Lengths
 pub mod Writing
+pub mod Lengths
+pub mod Needed
 pub mod Answers

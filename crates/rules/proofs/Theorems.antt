@@ -42,7 +42,7 @@ use Rattle.rules.specs.Tickets.{ticket_bytes, ticket_of, ticket_sound}
 use Rattle.rules.specs.Log.{falls_in, log_end, log_sound, with_ticket, contents, log_reads, add_steps}
 use Rattle.rules.specs.Calls.{Verdict, done, cut, refused, verdict, run, outcome, format_call, read_call, write_call, add_call}
 use Rattle.rules.specs.Demand.{ReadGives, TellsTheOrigin, AfterBothLists, Demand3}
-use Rattle.rules.specs.Capacitor.{format_needs, StoresNeeded}
+use Rattle.rules.specs.Capacitor.{StoresNeeded}
 use Rattle.rules.proofs.Soundness.Statements.{Usable, usable, RecordsSound, ChipSound, SoundBut, Sound, sound_chip, rest_collects}
 use Rattle.rules.proofs.Soundness.Checks.{lengths_are, images_sound, lengths_pass, records_check_pass, spares_check_pass}
 use Rattle.rules.proofs.Soundness.Accepted.{images_accepted, read_passes, WriteAccepted, write_accepted, write_passes, add_accepted, add_passes, commit_accepted, collect_accepted, find_accepted, find_passes}
@@ -144,7 +144,8 @@ module _ (l : Layout) where
     -- how big a capacitor: the stores that each call needs, and that with so many it is done
     pub stores : StoresNeeded l
     -- demand 3 has something to start from, in every geometry within the limits
-    pub starts : limits l ≡ true → (s : Images) → lengths l s ≡ true → (a : ℕ) → format_needs l ≤ a → verdict (format_call l s a).answer ≡ done
+    pub starts : limits l ≡ true → (s : Images) → lengths l s ≡ true → (a : ℕ) → length (format_steps l) ≤ a
+        → verdict (format_call l s a).answer ≡ done
 
 module _ (l : Layout) (some : 1 ≤ l.D) (narrow : l.D ≤ 4) where
   open l use {N, W, S}

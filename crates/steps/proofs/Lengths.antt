@@ -1,6 +1,6 @@
 -- How long lists of steps are, and lists of the same steps.
 use Prim.Native.Nat.{ℕ, zero, suc, ◌*◌, ◌≤◌, ◌<◌}
-use native.Mathlib.Nat.{suc-mul, le_step, lt-suc_self}
+use native.Mathlib.Nat.{suc-mul, le_refl, le_step, lt-suc_self}
 use native.Mathlib.Omega.{arith}
 use mathlib.Core.Path.{◌≡◌, refl}
 use mathlib.Core.Bool.{Bool}
@@ -13,11 +13,28 @@ use Rattle.layout.specs.Layout.{Layout}
 use Rattle.layout.specs.Images.{Images}
 use Rattle.steps.specs.Steps.{Step, apply_all, and_then, steps_below, then_below}
 
--- n lists of k steps
-pub length_below : (k n : ℕ) (f : ℕ → List Step) → ((i : ℕ) → length (f i) ≡ k) → length (steps_below n f) ≡ n * k
+-- n lists of at most k steps
+pub length_below : (k n : ℕ) (f : ℕ → List Step) → ((i : ℕ) → i < n → length (f i) ≤ k) → length (steps_below n f) ≤ n * k
 unfolding steps_below
 length_below k zero f h = omega arith
-length_below k (suc n) f h = let first = length_below k n f h in rw (length-append, suc-mul) (omega (arith, h n))
+length_below k (suc n) f h =
+    let first = length_below k n f (λ i low. h i (omega arith)) in
+    rw (length-append, suc-mul) (omega (arith, h n (le_refl (suc n))))
+
+-- the same, each worked out from the images after those before it
+pub length_then_below : (l : Layout) (k n : ℕ) (f : ℕ → Images → List Step) (s : Images) → ((i : ℕ) (t : Images) → length (f i t) ≤ k)
+    → length (then_below l n f s) ≤ n * k
+unfolding then_below and_then
+length_then_below l k zero f s h = omega arith
+length_then_below l k (suc n) f s h =
+    let first = length_then_below l k n f s h in
+    rw (length-append, suc-mul) (omega (arith, h n (apply_all l (then_below l n f s) s)))
+
+-- n lists of k steps
+pub length_alike : (k n : ℕ) (f : ℕ → List Step) → ((i : ℕ) → length (f i) ≡ k) → length (steps_below n f) ≡ n * k
+unfolding steps_below
+length_alike k zero f h = omega arith
+length_alike k (suc n) f h = let first = length_alike k n f h in rw (length-append, suc-mul) (omega (arith, h n))
 
 -- a step for each number that passes t, and none for any other
 pub length_counted : (n : ℕ) (t : ℕ → Bool) (f : ℕ → List Step) → ((i : ℕ) → length (f i) ≡ ones (t i)) → length (steps_below n f) ≡ count_below n t
@@ -28,14 +45,6 @@ length_counted (suc n) t f h =
     rw (length-append, count_more n t) (omega (arith, h n))
 
 module _ (l : Layout) (f : ℕ → Images → List Step) (s : Images) where
-  -- n lists of at most k steps, each worked out from the images after those before it
-  pub length_then_below : (k n : ℕ) → ((i : ℕ) (t : Images) → length (f i t) ≤ k) → length (then_below l n f s) ≤ n * k
-  unfolding then_below and_then
-  length_then_below k zero h = omega arith
-  length_then_below k (suc n) h =
-      let first = length_then_below k n h in
-      rw (length-append, suc-mul) (omega (arith, h n (apply_all l (then_below l n f s) s)))
-
   -- where the lists from the n-th on are empty, those before it are all
   pub then_below_ends : (n m : ℕ) → n ≤ m → ((i : ℕ) → n ≤ i → i < m → f i (apply_all l (then_below l i f s) s) ≡ []) → then_below l m f s ≡ then_below l n f s
   unfolding then_below and_then

@@ -3,8 +3,7 @@ use Rattle.codec.proofs.Encodings.{six_below}
 use Rattle.codec.proofs.six_at.Goals as goal
 
 pub returns : goal.returns
-returns c =
-    (
+returns c = (
   cc,
   six_below
       65536

@@ -13,25 +13,25 @@ use Rattle.codec.proofs.slot_data.Goals as goal
 pub overflow_mul-a : goal.overflow_mul-a
 overflow_mul-a c =
     let fits : c.args.i * c.args.g.w + c.args.g.w ≤ length c.args.slots.now =
-        slot_within c.args.g c.args.slots.now c.requires.0 c.args.i c.requires.1 in
+    slot_within c.args.g c.args.slots.now c.requires.0 c.args.i c.requires.1 in
     omega (arith, fits)
 
 pub overflow_add-e : goal.overflow_add-e
 overflow_add-e c =
     let fits : c.args.i * c.args.g.w + c.args.g.w ≤ length c.args.slots.now =
-        slot_within c.args.g c.args.slots.now c.requires.0 c.args.i c.requires.1 in
+    slot_within c.args.g c.args.slots.now c.requires.0 c.args.i c.requires.1 in
     omega (arith, fits)
 
 pub slice_bounds-result-end : goal.slice_bounds-result-end
 slice_bounds-result-end c =
     let fits : c.args.i * c.args.g.w + c.args.g.w ≤ length c.args.slots.now =
-        slot_within c.args.g c.args.slots.now c.requires.0 c.args.i c.requires.1 in
+    slot_within c.args.g c.args.slots.now c.requires.0 c.args.i c.requires.1 in
     omega (arith, fits)
 
 pub returns : goal.returns
 unfolding slot_at unit part
 returns c =
     let fits : c.args.i * c.args.g.w + c.args.g.w ≤ length c.args.slots.now =
-        slot_within c.args.g c.args.slots.now c.requires.0 c.args.i c.requires.1 in
+    slot_within c.args.g c.args.slots.now c.requires.0 c.args.i c.requires.1 in
     let a = c.args in
     rw add-sub_cancel_left (refl, length_part (a.i * a.g.w) a.g.w a.slots.now fits)

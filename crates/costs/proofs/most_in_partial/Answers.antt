@@ -1,5 +1,4 @@
 -- The comparison is that of the definition.
-use native.Mathlib.Omega.{arith}
 use mathlib.Core.Path.{refl}
 use Rattle.costs.proofs.most_in_partial.Goals as goal
 

@@ -1,9 +1,6 @@
-use Prim.Native.Nat.{◌-◌, ◌≤◌}
 use native.Mathlib.Omega.{arith}
 use native.Mathlib.Numerals.{add-one}
 use mathlib.Core.Path.{◌≡◌, sym, ◌∙◌}
-use mathlib.Core.Logic.{⊎_elim}
-use Rattle.ranges.specs.Look.{count_below}
 use Rattle.ranges.proofs.Counts.{count_start, count_le, count_cong}
 use Rattle.ranges.proofs.Tallies.{count_more}
 use Rattle.layout.specs.Layout.{layout_of}
@@ -30,9 +27,9 @@ loop-m-preserved c =
       omega arith,
       rw (add-one, count_more o.m f, ← o.invariant.1, ← c.bit_of.ensures)
           (elim c.if-bit_of.branch [
-      | then-bit_of w ↦ rw w.if-bit_of.true w.p-is
-      | else-bit_of w ↦ rw w.if-bit_of.false (omega (arith, w.p-is))
-    ]),
+            | then-bit_of w ↦ rw w.if-bit_of.true w.p-is
+            | else-bit_of w ↦ rw w.if-bit_of.false (omega (arith, w.p-is))
+          ]),
     )
 
 pub returns : goal.returns

@@ -18,7 +18,7 @@ pub overflow_mul-blocks : goal.overflow_mul-blocks
 overflow_mul-blocks c =
     let limits : Within (layout_of c.args.g) = within (layout_of c.args.g) c.requires.0.limited in
     let few : (c.args.g.n + 1) * c.args.g.b ≤ 7 * 1024 =
-        mul-le-mul {n₂ = 7} {m₂ = 1024} (omega (arith, limits.members_high)) limits.blocks_high in
+    mul-le-mul {n₂ = 7} {m₂ = 1024} (omega (arith, limits.members_high)) limits.blocks_high in
     omega (arith, few)
 
 pub returns : goal.returns

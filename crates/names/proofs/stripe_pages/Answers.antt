@@ -18,7 +18,7 @@ member_on-m-requires c = let h = c.requires in (h.0.limited, h.1, c.parity_chip-
 pub returns : goal.returns
 returns c =
     let elsewhere : let a = c.args in a.c ≢ parity_chip (layout_of a.g) a.j = λ q.
-        c.if-c-parity.false (q ∙ sym c.parity_chip-parity.ensures.0) in
+    c.if-c-parity.false (q ∙ sym c.parity_chip-parity.ensures.0) in
     let m = c.member_on-m in
     rw (c.number_in-2.ensures.0, c.number_in-3.ensures.0)
     (member_pages (layout_of c.args.g) c.args.j _ c.args.c m.result elsewhere (m.ensures.0 c.args.j c.parity_chip-parity.ensures.0) m.ensures.2)

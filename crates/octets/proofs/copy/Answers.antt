@@ -1,7 +1,6 @@
-use Prim.Native.Nat.{◌-◌}
 use native.Mathlib.Omega.{arith}
 use mathlib.Core.Path.{refl}
-use Rattle.octets.proofs.Lists.{Stored, stored_none, stored_more, stored_all}
+use Rattle.octets.proofs.Lists.{stored_none, stored_more, stored_all}
 use Rattle.octets.proofs.copy.Goals as goal
 
 pub loop-i-init : goal.loop-i-init

@@ -1,7 +1,7 @@
-use Prim.Native.Nat.{◌-◌, ◌<◌}
+use Prim.Native.Nat.{◌<◌}
 use native.Mathlib.Omega.{arith}
-use lib.ListN.{length, replicate, length-replicate, get_or-replicate}
-use Rattle.octets.proofs.Lists.{Stored, stored_none, stored_more, stored_all}
+use lib.ListN.{length, length-replicate, get_or-replicate}
+use Rattle.octets.proofs.Lists.{stored_none, stored_more, stored_all}
 use Rattle.octets.proofs.fill.Goals as goal
 
 pub loop-i-init : goal.loop-i-init

@@ -1,8 +1,6 @@
 -- After i turns the first i bytes of dst are those of a list of b as long as dst.
-use Prim.Native.Nat.{◌-◌, ◌<◌}
-use native.Mathlib.Omega.{arith}
-use lib.ListN.{length, replicate, length-replicate, get_or-replicate}
-use Rattle.octets.proofs.Lists.{Stored, stored_none, stored_more, stored_all}
+use lib.ListN.{length, replicate}
+use Rattle.octets.proofs.Lists.{Stored}
 use Rattle.octets.proofs.fill.Given as goal
 
 abbrev pub invariant-loop-i : goal.invariant-loop-i

@@ -1,7 +1,5 @@
-use Prim.Native.Nat.{◌-◌}
 use native.Mathlib.Omega.{arith}
-use Rattle.octets.proofs.Lists.{Stored, stored_none, stored_more, stored_rest, stored_all, get_d_xors}
-use Rattle.octets.specs.Xor.{◌⊕◌}
+use Rattle.octets.proofs.Lists.{stored_none, stored_more, stored_rest, stored_all, get_d_xors}
 use Rattle.octets.proofs.Xors.{length_xors_left}
 use Rattle.octets.proofs.xor_into.Goals as goal
 

@@ -1,9 +1,6 @@
 -- After i turns the first i bytes of dst are those of the XOR; the byte that is read next is still that of dst at entry.
-use Prim.Native.Nat.{◌-◌}
-use native.Mathlib.Omega.{arith}
-use Rattle.octets.proofs.Lists.{Stored, stored_none, stored_more, stored_rest, stored_all, get_d_xors}
+use Rattle.octets.proofs.Lists.{Stored}
 use Rattle.octets.specs.Xor.{◌⊕◌}
-use Rattle.octets.proofs.Xors.{length_xors_left}
 use Rattle.octets.proofs.xor_into.Given as goal
 
 abbrev pub invariant-loop-i : goal.invariant-loop-i

@@ -1,11 +1,8 @@
 -- The loop's invariant: all slots below i are marked.
 use Prim.Native.Nat.{◌+◌, ◌-◌, ◌≤◌}
-use native.Mathlib.Numerals.{add-one}
-use native.Mathlib.Omega.{arith}
-use mathlib.Core.Path.{◌≡◌, sym}
+use mathlib.Core.Path.{◌≡◌}
 use Rattle.ranges.specs.declared.Found.TheVariants.{Nothing}
 use Rattle.ranges.specs.Look.{first_below}
-use Rattle.ranges.proofs.Looks.{first_start, first_not_here, first_nothing, first_is}
 use Rattle.records.specs.Slots.{unmarked}
 use Rattle.records.proofs.lowest_unmarked.Given as goal
 

@@ -1,7 +1,6 @@
-use Prim.Native.Nat.{◌≤◌, ◌-◌}
 use native.Mathlib.Omega.{arith}
 use mathlib.Core.Path.{◌≡◌}
-use Rattle.records.proofs.Totals.{names_to, names_none, names_member, names_most, names_all}
+use Rattle.records.proofs.Totals.{names_none, names_member, names_most, names_all}
 use Rattle.records.proofs.names_of.Goals as goal
 
 pub loop-m-init : goal.loop-m-init

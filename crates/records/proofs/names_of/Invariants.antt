@@ -1,8 +1,7 @@
 -- Before member m, names is how many pages the members below m have: at most two each. The parity page is counted last.
 use Prim.Native.Nat.{◌≤◌, ◌-◌}
-use native.Mathlib.Omega.{arith}
 use mathlib.Core.Path.{◌≡◌}
-use Rattle.records.proofs.Totals.{names_to, names_none, names_member, names_most, names_all}
+use Rattle.records.proofs.Totals.{names_to}
 use Rattle.records.proofs.names_of.Given as goal
 
 abbrev pub invariant-loop-m : goal.invariant-loop-m

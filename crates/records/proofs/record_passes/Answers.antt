@@ -1,13 +1,11 @@
-use Prim.Native.Nat.{◌≤◌, ◌-◌}
 use native.Mathlib.Numerals.{add-one}
 use native.Mathlib.Omega.{arith}
 use mathlib.Core.Path.{◌≡◌, refl}
-use mathlib.Core.Logic.{⊎_elim}
 use mathlib.Core.Bool.{and-true}
 use borrow.Author.Tests.{eq-eqb, ne_eqb}
 use Rattle.ranges.specs.Look.{all_below}
 use Rattle.layout.specs.Layout.{layout_of, none}
-use Rattle.rules.specs.Sound.{member_sound, slot_sound, record_sound}
+use Rattle.rules.specs.Sound.{slot_sound, record_sound}
 use Rattle.codec.specs.Views.{record_from}
 use Rattle.codec.proofs.Sizes.{bounded}
 use Rattle.records.proofs.record_passes.Goals as goal
@@ -32,11 +30,11 @@ unfolding record_sound record_from none
 returns c =
     let slot_is : let a = c.args in
     c.if-e-eq0.slot ≡ slot_sound (layout_of a.g) (record_from (layout_of a.g) a.e) =
-        let bits = c.args.e.bitmap in
-        elim c.if-e-eq0.branch [
-          | then-e-eq0 w ↦ rw (eq-eqb bits 0 w.if-e-eq0.true) w.slot-is
-          | else-e-eq0 w ↦ rw (ne_eqb bits 0 w.if-e-eq0.false) w.slot-is
-        ] in
+    let bits = c.args.e.bitmap in
+    elim c.if-e-eq0.branch [
+      | then-e-eq0 w ↦ rw (eq-eqb bits 0 w.if-e-eq0.true) w.slot-is
+      | else-e-eq0 w ↦ rw (ne_eqb bits 0 w.if-e-eq0.false) w.slot-is
+    ] in
     let loop = c.loop-m in
     let six : loop.m ≡ 6 = omega arith in
     rw (slot_is, loop.invariant.1, six, (bounded c.args.g c.requires).bitmaps, and-true)

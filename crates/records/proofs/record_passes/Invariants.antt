@@ -1,16 +1,10 @@
 -- The loop's invariant: the flag is the test of the members below m. The other tests are the definition's own.
 use Prim.Native.Nat.{◌≤◌, ◌-◌}
-use native.Mathlib.Numerals.{add-one}
-use native.Mathlib.Omega.{arith}
-use mathlib.Core.Path.{◌≡◌, refl}
-use mathlib.Core.Logic.{⊎_elim}
-use mathlib.Core.Bool.{and-true}
-use borrow.Author.Tests.{eq-eqb, ne_eqb}
+use mathlib.Core.Path.{◌≡◌}
 use Rattle.ranges.specs.Look.{all_below}
-use Rattle.layout.specs.Layout.{layout_of, none}
-use Rattle.rules.specs.Sound.{member_sound, slot_sound, record_sound}
+use Rattle.layout.specs.Layout.{layout_of}
+use Rattle.rules.specs.Sound.{member_sound}
 use Rattle.codec.specs.Views.{record_from}
-use Rattle.codec.proofs.Sizes.{bounded}
 use Rattle.records.proofs.record_passes.Given as goal
 
 abbrev pub invariant-loop-m : goal.invariant-loop-m

@@ -1,7 +1,5 @@
-use Prim.Native.Nat.{◌-◌, ◌≤◌}
 use native.Mathlib.Omega.{arith}
 use mathlib.Core.Path.{◌≡◌}
-use mathlib.Core.Logic.{⊎_elim}
 use borrow.Author.Tests.{lt-ltb, le-ltb}
 use Rattle.ranges.proofs.Counts.{count_le}
 use Rattle.layout.specs.Layout.{layout_of}
@@ -9,7 +7,7 @@ use Rattle.layout.specs.Record.{record_at, slotted}
 use Rattle.layout.specs.Collection.{collection_at}
 use Rattle.layout.proofs.Limits.{Within, within}
 use Rattle.records.proofs.Plains.{plain_names, plain_few}
-use Rattle.records.proofs.Tables.{Passed, full_names, full_few, gone_few, looked_names, passed_start, passed_full, passed_plain, passed_next, passed_names, passed_all, passed_slots}
+use Rattle.records.proofs.Tables.{full_few, gone_few, looked_names, passed_start, passed_full, passed_plain, passed_next, passed_names, passed_all, passed_slots}
 use Rattle.records.proofs.scan_records.Goals as goal
 use Rattle.records.proofs.scan_records.Goals.{else-n-lost, else-seen_full+else-look, else-seen_full+then-look, then-n-lost, then-seen_full}
 
@@ -19,9 +17,9 @@ loop-j-init c =
       omega arith,
       passed_start (c.no_tally-tally.ensures a.g (record_at (layout_of a.g) a.records.now)),
       elim c.if-n-lost.branch [
-      | then-n-lost w ↦ rw (w.full-is, lt-ltb a.g.n a.lost w.if-n-lost.true)
-      | else-n-lost w ↦ rw (w.full-is, le-ltb a.g.n a.lost w.if-n-lost.false)
-    ],
+        | then-n-lost w ↦ rw (w.full-is, lt-ltb a.g.n a.lost w.if-n-lost.true)
+        | else-n-lost w ↦ rw (w.full-is, le-ltb a.g.n a.lost w.if-n-lost.false)
+      ],
     )
 
 pub overflow_add-names : goal.overflow_add-names

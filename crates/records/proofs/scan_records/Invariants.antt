@@ -1,17 +1,10 @@
 -- The loop's invariant: the tally, the table and the count of page numbers are those of the records below j. A record has at most 13
 -- page numbers, so that no sum overflows.
 use Prim.Native.Nat.{◌-◌, ◌≤◌}
-use native.Mathlib.Omega.{arith}
 use mathlib.Core.Path.{◌≡◌}
-use mathlib.Core.Logic.{⊎_elim}
-use borrow.Author.Tests.{lt-ltb, le-ltb}
-use Rattle.ranges.proofs.Counts.{count_le}
 use Rattle.layout.specs.Layout.{layout_of}
-use Rattle.layout.specs.Record.{record_at, slotted}
-use Rattle.layout.specs.Collection.{collection_at}
-use Rattle.layout.proofs.Limits.{Within, within}
-use Rattle.records.proofs.Plains.{plain_names, plain_few}
-use Rattle.records.proofs.Tables.{Passed, full_names, full_few, gone_few, looked_names, passed_start, passed_full, passed_plain, passed_next, passed_names, passed_all, passed_slots}
+use Rattle.layout.specs.Record.{record_at}
+use Rattle.records.proofs.Tables.{Passed, full_names}
 use Rattle.records.proofs.scan_records.Given as goal
 
 abbrev pub invariant-loop-j : goal.invariant-loop-j

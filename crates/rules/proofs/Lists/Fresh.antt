@@ -29,8 +29,6 @@ use Rattle.rules.specs.Format.{erase_block, erase_chip, empty_stripe, format_ste
 use Rattle.rules.proofs.Soundness.Checks.{lengths_are}
 use Rattle.rules.proofs.Soundness.Table.{by_check}
 use Rattle.rules.proofs.Soundness.Accepted.{buffers_accepted, buffers_pass}
-use Rattle.rules.specs.Capacitor.{format_needs}
-use Rattle.rules.proofs.Lists.Lengths.{format_length}
 use Rattle.rules.proofs.Lists.CutRule.{verdict_number, cut_rules}
 
 module _ (l : Layout) where
@@ -184,5 +182,6 @@ format_fresh l some narrow s allowance e =
     (fit, rw is (formatted l narrow some s chips records slots))
 
 -- and every geometry within the limits has one: an allowance for the whole list is enough
-pub format_finishes : (l : Layout) (s : Images) (a : ℕ) → limits l ≡ true → lengths l s ≡ true → format_needs l ≤ a → verdict (format_call l s a).answer ≡ done
-format_finishes l s a fit long enough = rw (((cut_rules l).format s a).finishing (buffers_pass l s fit long) (omega (arith, format_length l)))
+pub format_finishes : (l : Layout) (s : Images) (a : ℕ) → limits l ≡ true → lengths l s ≡ true → length (format_steps l) ≤ a
+    → verdict (format_call l s a).answer ≡ done
+format_finishes l s a fit long enough = rw (((cut_rules l).format s a).finishing (buffers_pass l s fit long) enough)

@@ -1,144 +1,157 @@
--- How long lists and their parts are, by the definitions alone.
-use Prim.Native.Nat.{ℕ, ◌+◌, ◌≤◌, ◌<◌}
+-- How long the list of a call can be.
+use Prim.Native.Nat.{ℕ, ◌+◌, ◌*◌, ◌≤◌}
 use native.Mathlib.Nat.{mul-one}
 use native.Mathlib.Omega.{arith}
-use mathlib.Core.Path.{◌≡◌, refl, ap, ◌∙◌}
 use mathlib.Core.Bool.{Bool, true, false, cond}
 use mathlib.Core.List.{List, [], ◌∷◌}
 use lib.ListN.{length, length-append}
 use lib.Dec.{eqb}
-use borrow.Author.Tests.{eq-eqb, ne_eqb}
 use Rattle.ranges.specs.declared.Found.{Found}
 use Rattle.ranges.specs.declared.Found.TheVariants.{At, Nothing}
 use Rattle.ranges.specs.Look.{count_below, when_found}
-use Rattle.ranges.proofs.Looks.{by_test, both}
-use Rattle.ranges.proofs.Tallies.{ones}
-use Rattle.layout.specs.Layout.{Layout, no_chip, page_in}
-use Rattle.layout.specs.Rotation.{member_chip}
-use Rattle.layout.specs.Page.{Page, is_clean_kind, clean, page_at}
-use Rattle.layout.specs.Record.{Record, record_at}
+use Rattle.ranges.proofs.Looks.{by_test}
+use Rattle.layout.specs.Layout.{Layout, page_in}
+use Rattle.layout.specs.Rotation.{parity_chip, member_chip, member_of, stripe_of}
+use Rattle.layout.specs.Page.{page_at}
+use Rattle.layout.specs.Record.{record_at}
 use Rattle.layout.specs.Collection.{Collection, collection_at}
 use Rattle.layout.specs.Images.{Images}
-use Rattle.layout.proofs.Pages.{place_in}
 use Rattle.steps.specs.Store.{program}
 use Rattle.steps.specs.Steps.{Step, plain, apply_all, and_then, then_below}
-use Rattle.steps.proofs.Lengths.{length_below, length_counted, length_then_below, then_below_ends}
-use Rattle.rules.specs.Blocks.{clean_in, named_in}
-use Rattle.rules.specs.Fetch.{Feed, fed}
+use Rattle.steps.proofs.Lengths.{length_below, length_then_below}
 use Rattle.rules.specs.Format.{erase_chip, erase_block, empty_stripe, format_steps}
-use Rattle.rules.specs.Open.{due, move_from, move_steps, finish_of, finish_steps, open_steps}
-use Rattle.rules.specs.Collect.{copy_of, copy_from, copy_steps, named_count}
+use Rattle.rules.specs.Blocks.{named_in, lowest_clean_block}
+use Rattle.rules.specs.Fetch.{fed}
+use Rattle.rules.specs.Collect.{copy_of, copy_from, copy_steps, copy_feed, victim_of, collect_block, collect_steps}
+use Rattle.rules.specs.Place.{place_of}
+use Rattle.rules.specs.Room.{room_steps, at_place, placed}
+use Rattle.rules.specs.Costs.{cheapest}
 use Rattle.rules.specs.Parity.{commit_at}
+use Rattle.rules.specs.Commit.{commit_steps}
 use Rattle.rules.specs.Partial.{data_page, lowest_free_slot, slot_stores, slot_steps, write_at}
-use Rattle.rules.specs.Capacitor.{format_needs, open_needs}
-use Rattle.rules.proofs.Stores.Twins.{twin_is, due_is}
+use Rattle.rules.specs.Write.{commit_owed, owed_steps, write_member, write_steps}
+use Rattle.rules.specs.Log.{falls_in, log_end, with_ticket, contents, add_steps}
+use Rattle.rules.specs.Open.{due, move_step, move_from, move_steps, ending, finish_of, finish_steps}
 
--- one step where a test passes, and none else
-one_step : (b : Bool) (x : Step) → length (cond b (x ∷ []) []) ≡ ones b
-one_step true x = refl
-one_step false x = refl
+at_most_one : (b : Bool) (x : Step) → length (cond b (x ∷ []) []) ≤ 1
+at_most_one true x = omega arith
+at_most_one false x = omega arith
 
 -- what is found and what is not make lists of at most n steps
-pub found_length : (x : Found) (n : ℕ) (f : ℕ → List Step) (other : List Step) → ((i : ℕ) → x ≡ At i → length (f i) ≤ n) → (x ≡ Nothing → length other ≤ n)
-    → length (when_found x f other) ≤ n
+found_length : (x : Found) (n : ℕ) (f : ℕ → List Step) (other : List Step) → ((i : ℕ) → length (f i) ≤ n) → length other ≤ n → length (when_found x f other) ≤ n
 unfolding when_found
-found_length (At i) n f other h rest = h i refl
-found_length Nothing n f other h rest = rest refl
+found_length (At i) n f other h rest = h i
+found_length Nothing n f other h rest = rest
 
 module _ (l : Layout) where
   open l use {N, K, B, S}
 
   -- a format: each block, each record, phase 0
-  pub format_length : length (format_steps l) ≡ format_needs l
+  pub format_length : length (format_steps l) ≤ (N + 1) * B + S + 1
   unfolding format_steps
   format_length =
-      let blocks = length_below B (N + 1) (erase_chip l) (λ c. length_below 1 B (erase_block c) (λ b. refl) ∙ mul-one B) in
-      let stripes = length_below 1 S (empty_stripe l) (λ j. refl) in
-      rw (length-append, length-append) (omega (arith, blocks, stripes))
+      let blocks = length_below B (N + 1) (erase_chip l) (λ c low. rw mul-one at (length_below 1 B (erase_block c) (λ b h. omega arith))) in
+      let stripes = rw mul-one at (length_below 1 S (empty_stripe l) (λ j h. omega arith)) in
+      rw (length-append, length-append) (omega arith)
 
-  -- a commit at its place: its program and its record
-  pub commit_at_length : (j p : ℕ) (s : Images) → length (commit_at l j p s) ≤ 2
-  unfolding commit_at
-  commit_at_length j p s = omega arith
+  move_length : (co : Collection) (i : ℕ) (s : Images) → length (move_steps l co i s) ≤ 1
+  unfolding move_steps move_from
+  move_length co i s =
+      let x = page_at l s.chips co.chip in
+      let r = record_at l s.records in
+      at_most_one (due l co x r (page_in l co.destination i)) (move_step l co x r (page_in l co.destination i))
 
-  -- a write at its place: its program, its slot, its record
-  pub write_at_length : (j m : ℕ) (xs : List ℕ) (p : ℕ) (s : Images) → length (write_at l j m xs p s) ≤ 3
+  finish_of_lem : (s : Images) (co : Collection) (one two : Bool)
+      → length (cond one (ending co.chip co.destination) (cond two (and_then l (then_below l K (move_steps l co) s) (λ t. ending co.chip co.victim) s) [])) ≤ K + 2
+  unfolding and_then
+  finish_of_lem s co true two = omega arith
+  finish_of_lem s co false true =
+      let moves = rw mul-one at (length_then_below l 1 K (move_steps l co) s (move_length co)) in rw length-append (omega arith)
+  finish_of_lem s co false false = omega arith
+
+  -- the end of a collection: each place of the destination, an erase, phase 0
+  pub finish_length : (s : Images) → length (finish_steps l s) ≤ K + 2
+  unfolding finish_steps finish_of
+  finish_length s =
+      let co = collection_at l s.records in
+      finish_of_lem s co (eqb co.phase 1) (eqb co.phase 2)
+
+  copy_length : (c v d i : ℕ) (s : Images) → length (copy_from l c (page_at l s.chips c) (copy_feed l c s) (record_at l s.records) v d i) ≤ 1
+  unfolding copy_from
+  copy_length c v d i s =
+      let x = page_at l s.chips c in
+      let r = record_at l s.records in
+      at_most_one (named_in l r c v i)
+      (fed (copy_feed l c s (page_in l v i)) (λ xs. program c (page_in l d (count_below i (named_in l r c v))) (copy_of l (page_in l v i) (x (page_in l v i)) xs)))
+
+  collect_of : (c v : ℕ) (s : Images) (destination : Found)
+      → length (when_found destination (λ d. and_then l (copy_steps l c (page_at l s.chips c) (copy_feed l c s) (record_at l s.records) v d) (finish_steps l) s) []) ≤ 2 * K + 4
+  unfolding when_found and_then copy_steps
+  collect_of c v s (At d) =
+      let x = page_at l s.chips c in
+      let r = record_at l s.records in
+      let copies = rw mul-one at (length_below 1 K (copy_from l c x (copy_feed l c s) r v d) (λ i low. copy_length c v d i s)) in
+      let rest = finish_length (apply_all l (copy_steps l c x (copy_feed l c s) r v d) s) in
+      rw (length-append, length-append) (omega arith)
+  collect_of c v s Nothing = omega arith
+
+  -- the collection of a block: phase 1, each of its places, phase 2, and its end
+  block_length : (c v : ℕ) (s : Images) → length (collect_block l c v s) ≤ 2 * K + 4
+  unfolding collect_block
+  block_length c v s = collect_of c v s (lowest_clean_block l (page_at l s.chips c))
+
+  -- and of a chip
+  pub collect_length : (c : ℕ) (s : Images) → length (collect_steps l c s) ≤ 2 * K + 4
+  unfolding collect_steps
+  collect_length c s =
+      found_length (victim_of l c (page_at l s.chips c) (record_at l s.records)) (2 * K + 4) (λ v. collect_block l c v s) [] (λ v. block_length c v s) (omega arith)
+
+  -- a list at a place, with the collection that it may need
+  placed_length : (c k : ℕ) (f : ℕ → Images → List Step) (s : Images) → ((p : ℕ) (t : Images) → length (f p t) ≤ k) → length (placed l c f s) ≤ 2 * K + 4 + k
+  unfolding placed and_then room_steps at_place
+  placed_length c k f s h =
+      let t = apply_all l (room_steps l c s) s in
+      let room = found_length (place_of l (page_at l s.chips c)) (2 * K + 4) (λ p. []) (collect_steps l c s) (λ p. omega arith) (collect_length c s) in
+      let last = found_length (place_of l (page_at l t.chips c)) k (λ p. f p t) [] (λ p. h p t) (omega arith) in
+      rw length-append (omega arith)
+
+  -- a commit: a place, its program and its record
+  pub commit_length : (j : ℕ) (s : Images) → length (commit_steps l j s) ≤ 2 * K + 6
+  unfolding commit_steps commit_at
+  commit_length j s =
+      let all = placed_length (parity_chip l j) 2 (commit_at l j) s (λ p t. omega arith) in
+      omega arith
+
+  owed_length : (j : ℕ) (s : Images) → length (owed_steps l j s) ≤ 2 * K + 6
+  unfolding owed_steps
+  owed_length j s =
+      let r = record_at l s.records in
+      by_test (commit_owed l r j)
+      (λ e. rw e (found_length (cheapest l r) (2 * K + 6) (λ k. commit_steps l k s) [] (λ k. commit_length k s) (omega arith)))
+      (λ e. rw e (omega arith))
+
+  write_at_length : (j m : ℕ) (xs : List ℕ) (p : ℕ) (s : Images) → length (write_at l j m xs p s) ≤ 3
   unfolding write_at and_then slot_steps
   write_at_length j m xs p s =
       let t = apply_all l (plain (program (member_chip l j m) p (data_page l j m xs)) ∷ []) s in
       let r = record_at l t.records in
-      let last = found_length (lowest_free_slot l r) 2 (slot_stores l j m xs p t (r j)) [] (λ i e. omega arith) (λ e. omega arith) in
-      rw length-append (omega (arith, last))
+      let last = found_length (lowest_free_slot l r) 2 (slot_stores l j m xs p t (r j)) [] (λ i. omega arith) (omega arith) in
+      rw length-append (omega arith)
 
-  -- the first half of a collection: phase 1, a copy of each named page, phase 2
-  pub copies_length : (c : ℕ) (x : ℕ → Page) (page : ℕ → Feed) (r : ℕ → Record) (v d : ℕ) → length (copy_steps l c x page r v d) ≡ named_count l c x r v + 2
-  unfolding copy_steps copy_from named_count
-  copies_length c x page r v d =
-      let copies =
-      length_counted K (named_in l r c v) (copy_from l c x page r v d)
-      (λ i. one_step (named_in l r c v i) (fed (page (page_in l v i)) (λ xs. program c (page_in l d (count_below i (named_in l r c v))) (copy_of l (page_in l v i) (x (page_in l v i)) xs)))) in
-      rw length-append (omega (arith, copies))
+  -- a write: the commit that may be owed, a place, its program, its slot, its record
+  pub write_length : (page : ℕ) (xs : List ℕ) (s : Images) → length (write_steps l page xs s) ≤ 4 * K + 13
+  unfolding write_steps write_member and_then
+  write_length page xs s =
+      let j = stripe_of l page in
+      let m = member_of l page in
+      let t = apply_all l (owed_steps l j s) s in
+      let first = owed_length j s in
+      let last = placed_length (member_chip l j m) 3 (write_at l j m xs) t (write_at_length j m xs) in
+      rw length-append (omega arith)
 
-  -- the second half, the end of a collection
-  module _ (co : Collection) where
-    move_length : (i : ℕ) (s : Images) → length (move_steps l co i s) ≤ 1
-    unfolding move_steps move_from
-    move_length i s =
-        let x = page_at l s.chips co.chip in
-        let r = record_at l s.records in
-        let q = page_in l co.destination i in
-        by_test (due l co x r q) (λ e. rw e (omega arith)) (λ e. rw e (omega arith))
-
-    -- a clean page is no copy of a page of the victim, where that is full
-    clean_not_due : (x : ℕ → Page) (r : ℕ → Record) → ((i : ℕ) → i < K → clean_in l x co.victim i ≡ false) → (q : ℕ) → clean (x q) ≡ true
-        → due l co x r q ≡ false
-    clean_not_due x r full q is_clean = by_test (due l co x r q)
-        (λ e.
-        let h = due_is l co x r q e in
-        let (i, place, original) = place_in l co.victim (x q).copied h.0 in
-        let same = ap is_clean_kind (twin_is l r x co.chip (x q).copied q h.2).kind in
-        both (clean (x (x q).copied)) (rw same at is_clean) (rw original (full i place)))
-        (λ e. e)
-
-    -- of images s whose victim is full, and whose destination is clean from place n on, if moves leave the chips
-    module _ (s : Images) (n : ℕ) (full : (i : ℕ) → i < K → clean_in l (page_at l s.chips co.chip) co.victim i ≡ false)
-        (ahead : (k : ℕ) → n ≤ k → k < K → clean_in l (page_at l s.chips co.chip) co.destination k ≡ true)
-        (still : (i : ℕ) → i < K → (apply_all l (then_below l i (move_steps l co) s) s).chips ≡ s.chips) where
-      no_move : (i : ℕ) → n ≤ i → i < K → move_steps l co i (apply_all l (then_below l i (move_steps l co) s) s) ≡ []
-      unfolding move_steps move_from
-      no_move i low high =
-          let t = apply_all l (then_below l i (move_steps l co) s) s in
-          rw (
-            still i high,
-            clean_not_due (page_at l s.chips co.chip) (record_at l t.records) full (page_in l co.destination i) (ahead i low high),
-          )
-
-      moves_length : n ≤ K → length (then_below l K (move_steps l co) s) ≤ n
-      moves_length most =
-          rw (then_below_ends l (move_steps l co) s n K most no_move) (rw mul-one at (length_then_below l (move_steps l co) s 1 n move_length))
-
-      -- the moves, an erase, phase 0
-      pub finish_length : n ≤ K → co.phase ≡ 2 → length (finish_of l co s) ≤ n + 2
-      unfolding finish_of and_then
-      finish_length most two =
-          rw (ne_eqb co.phase 1 (omega arith), eq-eqb co.phase 2 two, length-append) (omega (arith, moves_length most))
-
-  -- an open: from any images, at most a move for each place, an erase, phase 0
-  moves_most : (co : Collection) (s : Images) → length (then_below l K (move_steps l co) s) + 2 ≤ open_needs l
-  moves_most co s = let moves = rw mul-one at (length_then_below l (move_steps l co) s 1 K (move_length co)) in omega (arith, moves)
-
-  finish_most : (co : Collection) (s : Images) → length (finish_of l co s) ≤ open_needs l
-  unfolding finish_of and_then
-  finish_most co s =
-      let most = moves_most co s in
-      by_test (eqb co.phase 1)
-      (λ e. rw e (omega (arith, most)))
-      (λ e. by_test (eqb co.phase 2)
-      (λ h. rw (e, h, length-append) (omega (arith, most)))
-      (λ h. rw (e, h) (omega arith)))
-
-  pub open_length : (lost : ℕ) (s : Images) → length (open_steps l lost s) ≤ open_needs l
-  unfolding open_steps finish_steps
-  open_length lost s = by_test (eqb lost no_chip)
-      (λ e. rw e (finish_most (collection_at l s.records) s))
-      (λ e. rw e (omega arith))
+  -- an addition makes no more stores than a write
+  pub add_length : (lost : ℕ) (ticket : List ℕ) (s : Images) → length (add_steps l lost ticket s) ≤ 4 * K + 13
+  unfolding add_steps
+  add_length lost ticket s =
+      found_length (log_end l (contents l s lost)) (4 * K + 13) (λ t. write_steps l (falls_in l t) (with_ticket l (contents l s lost) ticket t) s) []
+      (λ t. write_length (falls_in l t) (with_ticket l (contents l s lost) ticket t) s) (omega arith)

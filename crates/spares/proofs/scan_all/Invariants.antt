@@ -1,15 +1,12 @@
 -- The outer loop's invariant: what it has found of the blocks below b, on each chip. The inner loop's: the chips below c have the blocks
 -- from b to the end of those that are looked at together, the others not yet.
-use Prim.Native.Nat.{◌+◌, ◌-◌, ◌≤◌, ◌<◌}
-use native.Mathlib.Omega.{arith}
+use Prim.Native.Nat.{◌+◌, ◌-◌, ◌≤◌}
 use mathlib.Core.Path.{◌≡◌}
-use mathlib.Core.Logic.{⊎_elim}
 use Rattle.layout.specs.Layout.{layout_of}
 use Rattle.layout.specs.Page.{page_at}
 use Rattle.layout.specs.Record.{record_at}
-use Rattle.layout.proofs.Limits.{within}
 use Rattle.spares.specs.Scans.{chip_scans}
-use Rattle.spares.proofs.Scanning.{Row, row_start, row_next, row_more, row_lost, row_all, all_start}
+use Rattle.spares.proofs.Scanning.{Row}
 use Rattle.spares.proofs.scan_all.Given as goal
 
 abbrev pub invariant-loop-c : goal.invariant-loop-c

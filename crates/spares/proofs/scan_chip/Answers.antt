@@ -1,10 +1,5 @@
-use Prim.Native.Nat.{◌-◌, ◌≤◌}
 use native.Mathlib.Omega.{arith}
 use mathlib.Core.Path.{◌≡◌}
-use Rattle.layout.specs.Layout.{layout_of}
-use Rattle.layout.specs.Page.{page_at}
-use Rattle.layout.specs.Record.{record_at}
-use Rattle.spares.specs.Scans.{chip_scan}
 use Rattle.spares.proofs.scan_chip.Goals as goal
 
 pub loop-b-init : goal.loop-b-init

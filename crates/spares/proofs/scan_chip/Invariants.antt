@@ -1,6 +1,5 @@
 -- The loop's invariant: what it has found of the blocks below b.
 use Prim.Native.Nat.{◌-◌, ◌≤◌}
-use native.Mathlib.Omega.{arith}
 use mathlib.Core.Path.{◌≡◌}
 use Rattle.layout.specs.Layout.{layout_of}
 use Rattle.layout.specs.Page.{page_at}

@@ -1,4 +1,3 @@
-
 use Rattle.spares.proofs.scan_spares.Goals as goal
 
 pub returns : goal.returns

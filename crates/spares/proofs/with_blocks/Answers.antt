@@ -8,7 +8,7 @@ use Rattle.layout.specs.Record.{record_at}
 use Rattle.layout.proofs.Limits.{within}
 use Rattle.layout.proofs.Pages.{page_in_fits}
 use Rattle.codec.proofs.Fetching.{start_low}
-use Rattle.spares.specs.Scans.{block_scan, chip_scan}
+use Rattle.spares.specs.Scans.{block_scan}
 use Rattle.spares.proofs.Fields.{fields_fit}
 use Rattle.spares.proofs.Scanning.{together_end, together_in, stamps_fewer, fields_fewer, scan_few, scan_more}
 use Rattle.spares.proofs.with_blocks.Goals as goal
@@ -18,7 +18,7 @@ seen : (c : goal.After-struct_known-in-loop-b-4-1) → let a = c.args in let l =
     c.scan_block-scan.result ≡ block_scan l (record_at l a.records.now) (page_at l a.chips.now a.c) a.c c.loop-b.b
 seen c =
     let fits : let a = c.args in c.loop-b.o + a.g.k ≤ (a.end - a.from) * a.g.k =
-        together_in c.args.g.k c.requires.3 c.loop-b.b c.loop-b.o c.loop-b.invariant.1 c.loop-b-test.true in
+    together_in c.args.g.k c.requires.3 c.loop-b.b c.loop-b.o c.loop-b.invariant.1 c.loop-b-test.true in
     let a = c.args in
     c.scan_block-scan.ensures (page_at (layout_of a.g) a.chips.now a.c) a.c c.loop-b.b c.requires.2 c.loop-b.invariant.1
     (stamps_fewer fits c.fetch_stamps.ensures.0)
@@ -52,8 +52,7 @@ pub scan_block-scan-requires : goal.scan_block-scan-requires
 scan_block-scan-requires c =
     let block : c.loop-b.b + 1 ≤ c.args.g.b = omega (arith, c.loop-b-test.true, c.requires.4) in
     let fits : let a = c.args in c.loop-b.o + a.g.k ≤ (a.end - a.from) * a.g.k =
-        together_in c.args.g.k c.requires.3 c.loop-b.b c.loop-b.o c.loop-b.invariant.1 c.loop-b-test.true in
-    (
+    together_in c.args.g.k c.requires.3 c.loop-b.b c.loop-b.o c.loop-b.invariant.1 c.loop-b-test.true in (
       c.requires.1,
       omega (arith, c.loop-b.invariant.1, suc-mul c.loop-b.b c.args.g.k, mul-le-mul_right c.args.g.k block),
       omega (arith, fits, c.requires.5),
@@ -71,16 +70,15 @@ overflow_add-b c = omega (arith, (within (layout_of c.args.g) c.requires.0.limit
 pub overflow_add-o : goal.overflow_add-o
 overflow_add-o c =
     let fits : let a = c.args in c.loop-b.o + a.g.k ≤ (a.end - a.from) * a.g.k =
-        together_in c.args.g.k c.requires.3 c.loop-b.b c.loop-b.o c.loop-b.invariant.1 c.loop-b-test.true in
+    together_in c.args.g.k c.requires.3 c.loop-b.b c.loop-b.o c.loop-b.invariant.1 c.loop-b-test.true in
     omega (arith, fits, c.requires.5)
 
 pub loop-b-preserved : goal.loop-b-preserved
-loop-b-preserved c =
-    (
-      omega (arith, c.loop-b-test.true),
-      omega (arith, c.loop-b.invariant.1, suc-mul c.loop-b.b c.args.g.k),
-      scan_more _ _ _ _ _ c.loop-b.invariant.2 (seen c) c.with_next-victim.ensures,
-    )
+loop-b-preserved c = (
+  omega (arith, c.loop-b-test.true),
+  omega (arith, c.loop-b.invariant.1, suc-mul c.loop-b.b c.args.g.k),
+  scan_more _ _ _ _ _ c.loop-b.invariant.2 (seen c) c.with_next-victim.ensures,
+)
 
 pub returns : goal.returns
 returns c =

@@ -1,18 +1,11 @@
 -- The loop's invariant: what has been found of the blocks below b, whose pages stand in the arrays up to place o. A block is a candidate
 -- where it is full and has a page that is not named.
 use Prim.Native.Nat.{◌+◌, ◌-◌, ◌*◌, ◌≤◌}
-use native.Mathlib.Nat.{suc-mul, mul-le-mul_right}
-use native.Mathlib.Omega.{arith}
-use mathlib.Core.Path.{◌≡◌, refl}
+use mathlib.Core.Path.{◌≡◌}
 use Rattle.layout.specs.Layout.{layout_of}
 use Rattle.layout.specs.Page.{page_at}
 use Rattle.layout.specs.Record.{record_at}
-use Rattle.layout.proofs.Limits.{within}
-use Rattle.layout.proofs.Pages.{page_in_fits}
-use Rattle.codec.proofs.Fetching.{start_low}
-use Rattle.spares.specs.Scans.{block_scan, chip_scan}
-use Rattle.spares.proofs.Fields.{fields_fit}
-use Rattle.spares.proofs.Scanning.{together_end, together_in, stamps_fewer, fields_fewer, scan_few, scan_more}
+use Rattle.spares.specs.Scans.{chip_scan}
 use Rattle.spares.proofs.with_blocks.Given as goal
 
 abbrev pub invariant-loop-b : goal.invariant-loop-b

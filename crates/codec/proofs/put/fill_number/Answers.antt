@@ -1,7 +1,6 @@
-use Prim.Native.Nat.{◌-◌}
 use native.Mathlib.Omega.{arith}
 use Rattle.octets.proofs.Lists.{stored_all}
-use Rattle.codec.proofs.Fills.{Digits, digits_none, digits_more}
+use Rattle.codec.proofs.Fills.{digits_none, digits_more}
 use Rattle.codec.proofs.put.fill_number.Goals as goal
 
 pub loop-i-init : goal.loop-i-init

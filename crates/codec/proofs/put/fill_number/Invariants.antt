@@ -1,8 +1,5 @@
 -- After i turns the first i bytes are those of the number.
-use Prim.Native.Nat.{◌-◌}
-use native.Mathlib.Omega.{arith}
-use Rattle.octets.proofs.Lists.{stored_all}
-use Rattle.codec.proofs.Fills.{Digits, digits_none, digits_more}
+use Rattle.codec.proofs.Fills.{Digits}
 use Rattle.codec.proofs.put.fill_number.Given as goal
 
 abbrev pub invariant-loop-i : goal.invariant-loop-i

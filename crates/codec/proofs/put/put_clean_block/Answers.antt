@@ -9,36 +9,36 @@ use Rattle.codec.proofs.put.put_clean_block.Goals as goal
 pub overflow_mul-b : goal.overflow_mul-b
 overflow_mul-b c =
     let block : BlockIn c.args.g c.args.chips.now c.args.c c.args.b =
-        block_in c.args.g c.args.chips.now c.args.c c.args.b c.requires.0 c.requires.1 c.requires.2 in
+    block_in c.args.g c.args.chips.now c.args.c c.args.b c.requires.0 c.requires.1 c.requires.2 in
     omega (arith, block)
 
 pub page_offset-a-requires : goal.page_offset-a-requires
 page_offset-a-requires c =
     let block : BlockIn c.args.g c.args.chips.now c.args.c c.args.b =
-        block_in c.args.g c.args.chips.now c.args.c c.args.b c.requires.0 c.requires.1 c.requires.2 in
+    block_in c.args.g c.args.chips.now c.args.c c.args.b c.requires.0 c.requires.1 c.requires.2 in
     (c.requires.0.limited, c.requires.1, block.first)
 
 pub overflow_mul-e : goal.overflow_mul-e
 overflow_mul-e c =
     let block : BlockIn c.args.g c.args.chips.now c.args.c c.args.b =
-        block_in c.args.g c.args.chips.now c.args.c c.args.b c.requires.0 c.requires.1 c.requires.2 in
+    block_in c.args.g c.args.chips.now c.args.c c.args.b c.requires.0 c.requires.1 c.requires.2 in
     omega (arith, block, c.page_offset-a.ensures.0)
 
 pub overflow_add-e-2 : goal.overflow_add-e-2
 overflow_add-e-2 c =
     let block : BlockIn c.args.g c.args.chips.now c.args.c c.args.b =
-        block_in c.args.g c.args.chips.now c.args.c c.args.b c.requires.0 c.requires.1 c.requires.2 in
+    block_in c.args.g c.args.chips.now c.args.c c.args.b c.requires.0 c.requires.1 c.requires.2 in
     omega (arith, block, c.page_offset-a.ensures.0)
 
 pub slice_bounds-fill-end : goal.slice_bounds-fill-end
 slice_bounds-fill-end c =
     let block : BlockIn c.args.g c.args.chips.now c.args.c c.args.b =
-        block_in c.args.g c.args.chips.now c.args.c c.args.b c.requires.0 c.requires.1 c.requires.2 in
+    block_in c.args.g c.args.chips.now c.args.c c.args.b c.requires.0 c.requires.1 c.requires.2 in
     omega (arith, block, c.page_offset-a.ensures.0)
 
 pub returns : goal.returns
 unfolding erased put part
 returns c =
     let block : BlockIn c.args.g c.args.chips.now c.args.c c.args.b =
-        block_in c.args.g c.args.chips.now c.args.c c.args.b c.requires.0 c.requires.1 c.requires.2 in
+    block_in c.args.g c.args.chips.now c.args.c c.args.b c.requires.0 c.requires.1 c.requires.2 in
     rw (c.fill.ensures, add-sub_cancel_left, c.page_offset-a.ensures.0, block.long)

@@ -1,10 +1,8 @@
 use native.Mathlib.Nat.{add-sub_cancel_left}
 use native.Mathlib.Omega.{arith}
-use mathlib.Core.Path.{◌≡◌, refl}
+use mathlib.Core.Path.{refl}
 use Rattle.std.proofs.Common.{◌+◌, ◌*◌, ◌≤◌, length}
 use Rattle.octets.specs.Units.{put, unit_put}
-use Rattle.layout.specs.Layout.{layout_of}
-use Rattle.layout.specs.Record.{empty_record, bytes_of_record}
 use Rattle.layout.proofs.Rows.{empty_bytes}
 use Rattle.codec.proofs.Fills.{firsts_none, firsts_more}
 use Rattle.codec.proofs.Offsets.{record_within}
@@ -30,6 +28,6 @@ pub loop-j-preserved : goal.loop-j-preserved
 unfolding unit_put put
 loop-j-preserved c =
     let fits : c.loop-j.j * 32 + 32 ≤ length c.loop-j.records =
-        rw c.loop-j.invariant.same (record_within c.args.g c.args.records.now c.requires.0 c.loop-j.j (omega arith)) in
+    rw c.loop-j.invariant.same (record_within c.args.g c.args.records.now c.requires.0 c.loop-j.j (omega arith)) in
     let e = empty_bytes c.args.g in
     firsts_more c.loop-j.invariant (omega arith) (rw e refl) fits (rw (e, c.copy.ensures, add-sub_cancel_left))

@@ -11,19 +11,19 @@ use Rattle.codec.proofs.put.put_record.Goals as goal
 pub overflow_mul-a : goal.overflow_mul-a
 overflow_mul-a c =
     let fits : c.args.j * 32 + 32 ≤ length c.args.records.now =
-        record_within c.args.g c.args.records.now c.requires.0 c.args.j (omega arith) in
+    record_within c.args.g c.args.records.now c.requires.0 c.args.j (omega arith) in
     omega (arith, fits)
 
 pub overflow_add-e : goal.overflow_add-e
 overflow_add-e c =
     let fits : c.args.j * 32 + 32 ≤ length c.args.records.now =
-        record_within c.args.g c.args.records.now c.requires.0 c.args.j (omega arith) in
+    record_within c.args.g c.args.records.now c.requires.0 c.args.j (omega arith) in
     omega (arith, fits)
 
 pub slice_bounds-fill_record-end : goal.slice_bounds-fill_record-end
 slice_bounds-fill_record-end c =
     let fits : c.args.j * 32 + 32 ≤ length c.args.records.now =
-        record_within c.args.g c.args.records.now c.requires.0 c.args.j (omega arith) in
+    record_within c.args.g c.args.records.now c.requires.0 c.args.j (omega arith) in
     omega (arith, fits)
 
 pub returns : goal.returns

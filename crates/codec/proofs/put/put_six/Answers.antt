@@ -1,8 +1,6 @@
-use Prim.Native.Nat.{ℕ, ◌-◌, ◌≤◌}
 use native.Mathlib.Omega.{arith}
 use mathlib.Core.Path.{◌≡◌}
-use lib.ListN.{get_or}
-use Rattle.codec.proofs.Fills.{Numbers, numbers_none, numbers_more}
+use Rattle.codec.proofs.Fills.{numbers_none, numbers_more}
 use Rattle.codec.proofs.put.put_six.Goals as goal
 
 pub loop-m-init : goal.loop-m-init

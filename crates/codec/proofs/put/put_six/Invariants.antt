@@ -1,9 +1,7 @@
 -- After m turns the first m numbers stand in their bytes.
 use Prim.Native.Nat.{ℕ, ◌-◌, ◌≤◌}
-use native.Mathlib.Omega.{arith}
-use mathlib.Core.Path.{◌≡◌}
 use lib.ListN.{get_or}
-use Rattle.codec.proofs.Fills.{Numbers, numbers_none, numbers_more}
+use Rattle.codec.proofs.Fills.{Numbers}
 use Rattle.codec.proofs.put.put_six.Given as goal
 
 abbrev pub invariant-loop-m : goal.invariant-loop-m

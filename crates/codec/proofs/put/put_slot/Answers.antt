@@ -10,19 +10,19 @@ use Rattle.codec.proofs.put.put_slot.Goals as goal
 pub overflow_mul-a : goal.overflow_mul-a
 overflow_mul-a c =
     let fits : c.args.i * c.args.g.w + c.args.g.w ≤ length c.args.slots.now =
-        slot_within c.args.g c.args.slots.now c.requires.0 c.args.i c.requires.1 in
+    slot_within c.args.g c.args.slots.now c.requires.0 c.args.i c.requires.1 in
     omega (arith, fits)
 
 pub overflow_add-e : goal.overflow_add-e
 overflow_add-e c =
     let fits : c.args.i * c.args.g.w + c.args.g.w ≤ length c.args.slots.now =
-        slot_within c.args.g c.args.slots.now c.requires.0 c.args.i c.requires.1 in
+    slot_within c.args.g c.args.slots.now c.requires.0 c.args.i c.requires.1 in
     omega (arith, fits)
 
 pub slice_bounds-copy-end : goal.slice_bounds-copy-end
 slice_bounds-copy-end c =
     let fits : c.args.i * c.args.g.w + c.args.g.w ≤ length c.args.slots.now =
-        slot_within c.args.g c.args.slots.now c.requires.0 c.args.i c.requires.1 in
+    slot_within c.args.g c.args.slots.now c.requires.0 c.args.i c.requires.1 in
     omega (arith, fits)
 
 pub returns : goal.returns

@@ -1,9 +1,7 @@
-use Prim.Native.Nat.{◌≤◌, ◌-◌}
 use native.Mathlib.Numerals.{add-one}
 use native.Mathlib.Omega.{arith}
 use mathlib.Core.Path.{◌≡◌, refl}
 use Rattle.ranges.specs.Look.{all_below}
-use Rattle.codec.specs.Scan.{written_in}
 use Rattle.codec.proofs.scan.all_written.Goals as goal
 
 pub loop-i-init : goal.loop-i-init

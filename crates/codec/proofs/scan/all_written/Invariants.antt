@@ -1,8 +1,6 @@
 -- The loop's invariant: the flag is the test of the numbers below i.
 use Prim.Native.Nat.{◌≤◌, ◌-◌}
-use native.Mathlib.Numerals.{add-one}
-use native.Mathlib.Omega.{arith}
-use mathlib.Core.Path.{◌≡◌, refl}
+use mathlib.Core.Path.{◌≡◌}
 use Rattle.ranges.specs.Look.{all_below}
 use Rattle.codec.specs.Scan.{written_in}
 use Rattle.codec.proofs.scan.all_written.Given as goal

@@ -1,11 +1,10 @@
-use Prim.Native.Nat.{◌+◌, ◌-◌, ◌*◌, ◌≤◌, ◌<◌}
+use Prim.Native.Nat.{◌+◌, ◌*◌, ◌≤◌, ◌<◌}
 use native.Mathlib.Omega.{arith}
-use mathlib.Core.Path.{◌≡◌}
 use lib.ListN.{length, length-set}
 use Rattle.layout.specs.Layout.{layout_of}
 use Rattle.layout.proofs.Limits.{within}
 use Rattle.codec.proofs.Offsets.{page_high}
-use Rattle.codec.proofs.Fetching.{Filled, fill_start, fill_more, TagAt, StripeAt, spare_within, fetch_all}
+use Rattle.codec.proofs.Fetching.{fill_start, fill_more, spare_within, fetch_all}
 use Rattle.codec.proofs.scan.fetch_stamps.Goals as goal
 
 pub page_offset-requires : goal.page_offset-requires
@@ -25,8 +24,8 @@ overflow_mul-a c =
     let place : let a = c.args in
     let n = c.page_offset.result + a.g.w + c.loop-i.i * (a.g.w + 8) in
     (n + 4 ≤ length a.chips.now) × (n ≤ 1882689480) =
-        rw c.page_offset.ensures.0
-        (spare_within c.args.g c.args.chips.now c.requires.0 c.args.c c.args.first c.args.count c.requires.1 c.requires.3 c.loop-i.i c.loop-i-test.true) in
+    rw c.page_offset.ensures.0
+    (spare_within c.args.g c.args.chips.now c.requires.0 c.args.c c.args.first c.args.count c.requires.1 c.requires.3 c.loop-i.i c.loop-i-test.true) in
     omega (arith, place)
 
 pub overflow_add-a-in-loop-i : goal.overflow_add-a-in-loop-i
@@ -34,8 +33,8 @@ overflow_add-a-in-loop-i c =
     let place : let a = c.args in
     let n = c.page_offset.result + a.g.w + c.loop-i.i * (a.g.w + 8) in
     (n + 4 ≤ length a.chips.now) × (n ≤ 1882689480) =
-        rw c.page_offset.ensures.0
-        (spare_within c.args.g c.args.chips.now c.requires.0 c.args.c c.args.first c.args.count c.requires.1 c.requires.3 c.loop-i.i c.loop-i-test.true) in
+    rw c.page_offset.ensures.0
+    (spare_within c.args.g c.args.chips.now c.requires.0 c.args.c c.args.first c.args.count c.requires.1 c.requires.3 c.loop-i.i c.loop-i-test.true) in
     omega (arith, place)
 
 pub tag_at-requires : goal.tag_at-requires
@@ -43,8 +42,8 @@ tag_at-requires c =
     let place : let a = c.args in
     let n = c.page_offset.result + a.g.w + c.loop-i.i * (a.g.w + 8) in
     (n + 4 ≤ length a.chips.now) × (n ≤ 1882689480) =
-        rw c.page_offset.ensures.0
-        (spare_within c.args.g c.args.chips.now c.requires.0 c.args.c c.args.first c.args.count c.requires.1 c.requires.3 c.loop-i.i c.loop-i-test.true) in
+    rw c.page_offset.ensures.0
+    (spare_within c.args.g c.args.chips.now c.requires.0 c.args.c c.args.first c.args.count c.requires.1 c.requires.3 c.loop-i.i c.loop-i-test.true) in
     omega (arith, place)
 
 pub offset_bounds-tags-i : goal.offset_bounds-tags-i
@@ -62,8 +61,8 @@ overflow_add-a-in-loop-i-2 c =
     let place : let a = c.args in
     let n = c.page_offset.result + a.g.w + c.loop-i.i * (a.g.w + 8) in
     (n + 4 ≤ length a.chips.now) × (n ≤ 1882689480) =
-        rw c.page_offset.ensures.0
-        (spare_within c.args.g c.args.chips.now c.requires.0 c.args.c c.args.first c.args.count c.requires.1 c.requires.3 c.loop-i.i c.loop-i-test.true) in
+    rw c.page_offset.ensures.0
+    (spare_within c.args.g c.args.chips.now c.requires.0 c.args.c c.args.first c.args.count c.requires.1 c.requires.3 c.loop-i.i c.loop-i-test.true) in
     omega (arith, place)
 
 pub number_at-requires : goal.number_at-requires
@@ -71,8 +70,8 @@ number_at-requires c =
     let place : let a = c.args in
     let n = c.page_offset.result + a.g.w + c.loop-i.i * (a.g.w + 8) in
     (n + 4 ≤ length a.chips.now) × (n ≤ 1882689480) =
-        rw c.page_offset.ensures.0
-        (spare_within c.args.g c.args.chips.now c.requires.0 c.args.c c.args.first c.args.count c.requires.1 c.requires.3 c.loop-i.i c.loop-i-test.true) in
+    rw c.page_offset.ensures.0
+    (spare_within c.args.g c.args.chips.now c.requires.0 c.args.c c.args.first c.args.count c.requires.1 c.requires.3 c.loop-i.i c.loop-i-test.true) in
     omega (arith, place)
 
 pub overflow_cast-stripes : goal.overflow_cast-stripes

@@ -1,12 +1,8 @@
 -- The loop's invariant: the first i tags and stripes are those from the first spare on, one for each page.
-use Prim.Native.Nat.{◌+◌, ◌-◌, ◌*◌, ◌≤◌, ◌<◌}
-use native.Mathlib.Omega.{arith}
+use Prim.Native.Nat.{◌+◌, ◌-◌, ◌≤◌}
 use mathlib.Core.Path.{◌≡◌}
-use lib.ListN.{length, length-set}
-use Rattle.layout.specs.Layout.{layout_of}
-use Rattle.layout.proofs.Limits.{within}
-use Rattle.codec.proofs.Offsets.{page_high}
-use Rattle.codec.proofs.Fetching.{Filled, fill_start, fill_more, TagAt, StripeAt, spare_within, fetch_all}
+use lib.ListN.{length}
+use Rattle.codec.proofs.Fetching.{Filled, TagAt, StripeAt}
 use Rattle.codec.proofs.scan.fetch_stamps.Given as goal
 
 abbrev pub invariant-loop-i : goal.invariant-loop-i

@@ -1,7 +1,6 @@
-use Prim.Native.Nat.{◌≤◌, ◌<◌, ◌-◌}
+use Prim.Native.Nat.{◌<◌}
 use native.Mathlib.Omega.{arith}
 use mathlib.Core.Path.{◌≡◌}
-use Rattle.codec.specs.Scan.{Ranges}
 use Rattle.codec.proofs.Sizes.{bounded}
 use Rattle.codec.proofs.Tops.{tops_none, tops_more}
 use Rattle.codec.proofs.scan.ranges.Goals as goal

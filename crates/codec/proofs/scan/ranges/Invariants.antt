@@ -1,10 +1,6 @@
 -- The loop's invariant: the tops below m are filled. Members are at most six, so that each has a place among the eight.
-use Prim.Native.Nat.{◌≤◌, ◌<◌, ◌-◌}
-use native.Mathlib.Omega.{arith}
-use mathlib.Core.Path.{◌≡◌}
+use Prim.Native.Nat.{◌≤◌, ◌-◌}
 use Rattle.codec.specs.Scan.{Ranges}
-use Rattle.codec.proofs.Sizes.{bounded}
-use Rattle.codec.proofs.Tops.{tops_none, tops_more}
 use Rattle.codec.proofs.scan.ranges.Given as goal
 
 abbrev pub invariant-loop-m : goal.invariant-loop-m

@@ -12,7 +12,7 @@ use Rattle.codec.proofs.scan.seen_full.Goals as goal
 pub overflow_mul-a : goal.overflow_mul-a
 overflow_mul-a c =
     let fits : c.args.j * 32 + 32 ≤ length c.args.records.now =
-        record_within c.args.g c.args.records.now c.requires.0 c.args.j (omega (arith, c.requires.1)) in
+    record_within c.args.g c.args.records.now c.requires.0 c.args.j (omega (arith, c.requires.1)) in
     omega (arith, fits)
 
 pub overflow_mul-pages : goal.overflow_mul-pages
@@ -21,19 +21,19 @@ overflow_mul-pages c = omega (arith, bounded c.args.g c.requires.0.limited)
 pub ending_at-end-requires : goal.ending_at-end-requires
 ending_at-end-requires c =
     let fits : c.args.j * 32 + 32 ≤ length c.args.records.now =
-        record_within c.args.g c.args.records.now c.requires.0 c.args.j (omega (arith, c.requires.1)) in
+    record_within c.args.g c.args.records.now c.requires.0 c.args.j (omega (arith, c.requires.1)) in
     fits
 
 pub all_written-requires : goal.all_written-requires
 all_written-requires c =
     let fits : c.args.j * 32 + 32 ≤ length c.args.records.now =
-        record_within c.args.g c.args.records.now c.requires.0 c.args.j (omega (arith, c.requires.1)) in
+    record_within c.args.g c.args.records.now c.requires.0 c.args.j (omega (arith, c.requires.1)) in
     omega (arith, fits)
 
 pub returns : goal.returns
 returns c t =
     let fits : c.args.j * 32 + 32 ≤ length c.args.records.now =
-        record_within c.args.g c.args.records.now c.requires.0 c.args.j (omega (arith, c.requires.1)) in
+    record_within c.args.g c.args.records.now c.requires.0 c.args.j (omega (arith, c.requires.1)) in
     let (olds, last) = c.ending_at-end.ensures in
     let bytes : (i : ℕ) → get_or c.args.records.now i 0 < 256 = λ i. (c.shared_slice_known-1.given i).fits in
     let (two, all) = and_both _ _ t in

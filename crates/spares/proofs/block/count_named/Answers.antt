@@ -1,20 +1,15 @@
-use Prim.Native.Nat.{ℕ, ◌+◌, ◌-◌, ◌*◌, ◌≤◌, ◌<◌}
+use Prim.Native.Nat.{ℕ, ◌+◌, ◌*◌, ◌<◌}
 use native.Mathlib.Nat.{le_refl}
 use native.Mathlib.Numerals.{add-one}
 use native.Mathlib.Omega.{arith}
 use mathlib.Core.Path.{◌≡◌}
-use mathlib.Core.Bool.{Bool}
-use mathlib.Core.List.{List}
-use mathlib.Core.Logic.{⊎_elim}
 use lib.ListN.{get_or}
-use Rattle.ranges.specs.Look.{count_below}
 use Rattle.ranges.proofs.Counts.{count_le, count_cong}
 use Rattle.ranges.proofs.Tallies.{count_more, count_from}
-use Rattle.layout.specs.declared.Geometry.{Geometry}
 use Rattle.layout.specs.Layout.{layout_of}
 use Rattle.layout.specs.Record.{record_at}
 use Rattle.codec.proofs.Fetching.{start_low}
-use Rattle.spares.specs.Scans.{has_number, by_stamp_in}
+use Rattle.spares.specs.Scans.{by_stamp_in}
 use Rattle.spares.proofs.Fields.{field_test}
 use Rattle.spares.proofs.block.count_named.Invariants.{has}
 use Rattle.spares.proofs.block.count_named.Goals as goal
@@ -49,7 +44,7 @@ bounds-fields-at c =
 pub overflow_add-first : goal.overflow_add-first
 overflow_add-first c =
     let page-low : c.args.first + c.loop-at.at < 65535 =
-        omega (arith, c.requires.1, start_low c.args.g c.requires.0.limited c.args.g.b (le_refl c.args.g.b)) in
+    omega (arith, c.requires.1, start_low c.args.g c.requires.0.limited c.args.g.b (le_refl c.args.g.b)) in
     omega (arith, page-low)
 
 pub has_number-requires : goal.has_number-requires
@@ -75,9 +70,9 @@ loop-at-preserved c =
       omega (arith, c.loop-at-test.true),
       rw (add-one, more, ← o.invariant.1, ← c.has_number.ensures)
           (elim c.if-has_number.branch [
-      | then-has_number w ↦ rw w.if-has_number.true (omega (arith, w.named-is))
-      | else-has_number w ↦ rw w.if-has_number.false (omega (arith, w.named-is))
-    ]),
+            | then-has_number w ↦ rw w.if-has_number.true (omega (arith, w.named-is))
+            | else-has_number w ↦ rw w.if-has_number.false (omega (arith, w.named-is))
+          ]),
     )
 
 pub returns : goal.returns

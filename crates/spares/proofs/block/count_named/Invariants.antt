@@ -1,23 +1,15 @@
 -- The loop's invariant: so many of the places from o to `at` have their number in the field of their record. Whatever chip's pages have
 -- the tags and stripes, that is the test of their stamps.
-use Prim.Native.Nat.{ℕ, ◌+◌, ◌-◌, ◌*◌, ◌≤◌, ◌<◌}
-use native.Mathlib.Nat.{le_refl}
-use native.Mathlib.Numerals.{add-one}
-use native.Mathlib.Omega.{arith}
+use Prim.Native.Nat.{ℕ, ◌+◌, ◌-◌, ◌≤◌}
 use mathlib.Core.Path.{◌≡◌}
 use mathlib.Core.Bool.{Bool}
 use mathlib.Core.List.{List}
-use mathlib.Core.Logic.{⊎_elim}
 use lib.ListN.{get_or}
 use Rattle.ranges.specs.Look.{count_below}
-use Rattle.ranges.proofs.Counts.{count_le, count_cong}
-use Rattle.ranges.proofs.Tallies.{count_more, count_from}
 use Rattle.layout.specs.declared.Geometry.{Geometry}
 use Rattle.layout.specs.Layout.{layout_of}
 use Rattle.layout.specs.Record.{record_at}
-use Rattle.codec.proofs.Fetching.{start_low}
-use Rattle.spares.specs.Scans.{has_number, by_stamp_in}
-use Rattle.spares.proofs.Fields.{field_test}
+use Rattle.spares.specs.Scans.{has_number}
 use Rattle.spares.proofs.block.count_named.Given as goal
 
 -- place i has its number in its field

@@ -1,11 +1,10 @@
-use Prim.Native.Nat.{◌-◌, ◌≤◌, ◌<◌}
+use Prim.Native.Nat.{◌<◌}
 use native.Mathlib.Omega.{arith}
 use mathlib.Core.Path.{◌≡◌}
-use lib.ListN.{length, get_or, length-set}
+use lib.ListN.{length-set}
 use Rattle.layout.specs.Layout.{layout_of}
 use Rattle.layout.proofs.Limits.{within}
-use Rattle.spares.specs.Scans.{field_of}
-use Rattle.codec.proofs.Fetching.{Filled, fill_start, fill_more}
+use Rattle.codec.proofs.Fetching.{fill_start, fill_more}
 use Rattle.spares.proofs.block.fields_by_width.Goals as goal
 
 pub overflow_cast-chip : goal.overflow_cast-chip

@@ -1,12 +1,10 @@
 -- The loop's invariant: the first i fields are those of the tags and stripes.
-use Prim.Native.Nat.{◌-◌, ◌≤◌, ◌<◌}
-use native.Mathlib.Omega.{arith}
+use Prim.Native.Nat.{◌-◌, ◌≤◌}
 use mathlib.Core.Path.{◌≡◌}
-use lib.ListN.{length, get_or, length-set}
+use lib.ListN.{length, get_or}
 use Rattle.layout.specs.Layout.{layout_of}
-use Rattle.layout.proofs.Limits.{within}
 use Rattle.spares.specs.Scans.{field_of}
-use Rattle.codec.proofs.Fetching.{Filled, fill_start, fill_more}
+use Rattle.codec.proofs.Fetching.{Filled}
 use Rattle.spares.proofs.block.fields_by_width.Given as goal
 
 abbrev pub invariant-loop-i : goal.invariant-loop-i

@@ -1,10 +1,10 @@
-use Prim.Native.Nat.{◌+◌, ◌-◌, ◌≤◌, ◌<◌}
+use Prim.Native.Nat.{◌+◌, ◌<◌}
 use native.Mathlib.Numerals.{add-one}
 use native.Mathlib.Omega.{arith}
 use mathlib.Core.Path.{◌≡◌, refl}
 use Rattle.ranges.specs.Look.{all_below}
 use Rattle.layout.specs.Layout.{layout_of}
-use Rattle.spares.proofs.Scanning.{free_tag, used_tag, fill_tags}
+use Rattle.spares.proofs.Scanning.{fill_tags}
 use Rattle.spares.proofs.block.fill_of.Goals as goal
 
 pub loop-i-init : goal.loop-i-init

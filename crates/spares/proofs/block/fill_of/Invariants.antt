@@ -1,11 +1,8 @@
 -- The loop's invariant: whether all places below i are clean by their tags, and whether none is.
-use Prim.Native.Nat.{◌+◌, ◌-◌, ◌≤◌, ◌<◌}
-use native.Mathlib.Numerals.{add-one}
-use native.Mathlib.Omega.{arith}
-use mathlib.Core.Path.{◌≡◌, refl}
+use Prim.Native.Nat.{◌-◌, ◌≤◌}
+use mathlib.Core.Path.{◌≡◌}
 use Rattle.ranges.specs.Look.{all_below}
-use Rattle.layout.specs.Layout.{layout_of}
-use Rattle.spares.proofs.Scanning.{free_tag, used_tag, fill_tags}
+use Rattle.spares.proofs.Scanning.{free_tag, used_tag}
 use Rattle.spares.proofs.block.fill_of.Given as goal
 
 abbrev pub invariant-loop-i : goal.invariant-loop-i

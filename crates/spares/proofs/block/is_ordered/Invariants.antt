@@ -1,12 +1,8 @@
 -- The loop's invariant: the places below i are in order by their tags.
-use Prim.Native.Nat.{◌+◌, ◌-◌, ◌≤◌, ◌<◌}
-use native.Mathlib.Numerals.{add-one}
-use native.Mathlib.Omega.{arith}
-use mathlib.Core.Path.{◌≡◌, refl, ◌∙◌}
+use Prim.Native.Nat.{◌-◌, ◌≤◌}
+use mathlib.Core.Path.{◌≡◌}
 use Rattle.ranges.specs.Look.{all_below}
-use Rattle.layout.specs.Layout.{layout_of}
-use Rattle.layout.proofs.Limits.{within}
-use Rattle.spares.proofs.Scanning.{order_tag, order_tags}
+use Rattle.spares.proofs.Scanning.{order_tag}
 use Rattle.spares.proofs.block.is_ordered.Given as goal
 
 abbrev pub invariant-loop-i : goal.invariant-loop-i

@@ -1,6 +1,5 @@
 -- Order, fill and names are told from the tags, stripes and fields.
 use mathlib.Core.Path.{sym, ◌∙◌}
-use mathlib.Core.Logic.{⊎_elim}
 use Rattle.layout.specs.Layout.{layout_of}
 use Rattle.layout.specs.Record.{record_at}
 use Rattle.spares.proofs.Scanning.{alike_ordered, block_scan_lem}

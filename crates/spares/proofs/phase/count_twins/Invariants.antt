@@ -1,16 +1,9 @@
 -- The loop's invariant: for each place of the victim, how many of the first i places of the destination hold its twin.
-use Prim.Native.Nat.{◌+◌, ◌-◌, ◌*◌, ◌≤◌, ◌<◌}
-use mathlib.Core.Path.{◌≡◌, sym, ◌∙◌}
-use mathlib.Core.Logic.{⊎_elim}
-use lib.ListN.{get_or}
-use Rattle.layout.proofs.Limits.{within}
-use native.Mathlib.Omega.{arith}
+use Prim.Native.Nat.{◌-◌, ◌≤◌}
 use Rattle.layout.specs.Layout.{layout_of}
 use Rattle.layout.specs.Page.{page_at}
 use Rattle.layout.specs.Record.{record_at}
 use Rattle.spares.specs.Phases.{Twins}
-use Rattle.codec.proofs.Fetching.{OnChip, start_low, place_low}
-use Rattle.spares.proofs.Twins.{twin_low, twins_few, twins_start, twins_same, twins_more}
 use Rattle.spares.proofs.phase.count_twins.Given as goal
 
 abbrev pub invariant-loop-i : goal.invariant-loop-i

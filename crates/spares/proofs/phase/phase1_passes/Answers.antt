@@ -1,11 +1,8 @@
-use Prim.Native.Nat.{◌+◌, ◌-◌, ◌*◌, ◌≤◌}
+use Prim.Native.Nat.{◌+◌, ◌*◌}
 use native.Mathlib.Numerals.{add-one}
 use native.Mathlib.Omega.{arith}
 use mathlib.Core.Path.{◌≡◌, refl}
 use Rattle.ranges.specs.Look.{all_below}
-use Rattle.layout.specs.Layout.{layout_of}
-use Rattle.layout.specs.Record.{record_at}
-use Rattle.rules.specs.Blocks.{unnamed_in}
 use Rattle.rules.specs.Sound.{phase1_sound}
 use Rattle.codec.proofs.Fetching.{OnChip, start_low, place_low}
 use Rattle.spares.proofs.phase.phase1_passes.Goals as goal

@@ -1,14 +1,10 @@
 -- The loop's invariant: the flag says that none of the first i places of the destination is named.
-use Prim.Native.Nat.{◌+◌, ◌-◌, ◌*◌, ◌≤◌}
-use native.Mathlib.Numerals.{add-one}
-use native.Mathlib.Omega.{arith}
-use mathlib.Core.Path.{◌≡◌, refl}
+use Prim.Native.Nat.{◌-◌, ◌≤◌}
+use mathlib.Core.Path.{◌≡◌}
 use Rattle.ranges.specs.Look.{all_below}
 use Rattle.layout.specs.Layout.{layout_of}
 use Rattle.layout.specs.Record.{record_at}
 use Rattle.rules.specs.Blocks.{unnamed_in}
-use Rattle.rules.specs.Sound.{phase1_sound}
-use Rattle.codec.proofs.Fetching.{OnChip, start_low, place_low}
 use Rattle.spares.proofs.phase.phase1_passes.Given as goal
 
 abbrev pub invariant-loop-i : goal.invariant-loop-i

@@ -1,13 +1,11 @@
-use Prim.Native.Nat.{◌+◌, ◌-◌, ◌*◌, ◌≤◌, ◌<◌}
+use Prim.Native.Nat.{◌+◌, ◌*◌, ◌<◌}
 use native.Mathlib.Numerals.{add-one}
 use native.Mathlib.Omega.{arith}
 use mathlib.Core.Path.{◌≡◌, refl}
 use Rattle.ranges.specs.Look.{all_below}
 use Rattle.layout.specs.Layout.{layout_of}
-use Rattle.layout.specs.Page.{page_at}
-use Rattle.layout.specs.Record.{record_at}
 use Rattle.layout.proofs.Limits.{within}
-use Rattle.rules.specs.Sound.{one_twin, phase2_sound}
+use Rattle.rules.specs.Sound.{phase2_sound}
 use Rattle.codec.proofs.Fetching.{OnChip, start_low, place_low}
 use Rattle.spares.proofs.phase.phase2_passes.Goals as goal
 
@@ -32,7 +30,7 @@ named_at-requires c = (c.requires.0, (place c).0)
 pub bounds-counts-i : goal.bounds-counts-i
 bounds-counts-i c =
     let few : c.loop-i.i < 128 =
-        omega (arith, (within (layout_of c.args.g) c.requires.0.chips_fit.limited).places_high) in
+    omega (arith, (within (layout_of c.args.g) c.requires.0.chips_fit.limited).places_high) in
     few
 
 pub loop-i-preserved : goal.loop-i-preserved

@@ -1,15 +1,11 @@
 -- The loop's invariant: the flag says that each named page among the first i places of the victim has one twin.
-use Prim.Native.Nat.{◌+◌, ◌-◌, ◌*◌, ◌≤◌, ◌<◌}
-use native.Mathlib.Numerals.{add-one}
-use native.Mathlib.Omega.{arith}
-use mathlib.Core.Path.{◌≡◌, refl}
+use Prim.Native.Nat.{◌-◌, ◌≤◌}
+use mathlib.Core.Path.{◌≡◌}
 use Rattle.ranges.specs.Look.{all_below}
 use Rattle.layout.specs.Layout.{layout_of}
 use Rattle.layout.specs.Page.{page_at}
 use Rattle.layout.specs.Record.{record_at}
-use Rattle.layout.proofs.Limits.{within}
-use Rattle.rules.specs.Sound.{one_twin, phase2_sound}
-use Rattle.codec.proofs.Fetching.{OnChip, start_low, place_low}
+use Rattle.rules.specs.Sound.{one_twin}
 use Rattle.spares.proofs.phase.phase2_passes.Given as goal
 
 abbrev pub invariant-loop-i : goal.invariant-loop-i
