@@ -8,7 +8,6 @@ use mathlib.Core.Bool.{true}
 use mathlib.Core.List.{[], ◌∷◌, ◌++◌}
 use lib.ListN.{length}
 use borrow.Author.Tests.{lt-ltb, le-leb, lt-leb}
-use Rattle.ranges.specs.Update.{at}
 use Rattle.ranges.proofs.Looks.{by_order, at_last}
 use Rattle.octets.proofs.Numbers.{pow_positive}
 use Rattle.ranges.proofs.Updates.{at_same, at_other}
