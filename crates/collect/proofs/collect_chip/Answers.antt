@@ -18,7 +18,7 @@ pub copy_block-run-requires : goal.copy_block-run-requires
 copy_block-run-requires c =
     let lowest : let a = c.args in
     lowest_clean_block (layout_of a.g) (page_at (layout_of a.g) a.chips.now a.c) ≡ At c.in-At.d =
-        sym c.clean_block_on.ensures ∙ c.in-At.is in
+    sym c.clean_block_on.ensures ∙ c.in-At.is in
     let h = c.requires in
     (h.0, h.1, h.2, h.3, h.4, lowest, h.5, h.6)
 
@@ -26,7 +26,7 @@ pub returns-then-run : goal.returns-then-run
 returns-then-run c =
     let lowest : let a = c.args in
     lowest_clean_block (layout_of a.g) (page_at (layout_of a.g) a.chips.now a.c) ≡ At c.in-At.d =
-        sym c.clean_block_on.ensures ∙ c.in-At.is in
+    sym c.clean_block_on.ensures ∙ c.in-At.is in
     let h = c.requires in
     collect_cut h.0 h.1 h.3 h.4 lowest h.5.long c.copy_block-run.ensures c.if-run.true
 
@@ -34,14 +34,14 @@ pub finish-requires : goal.finish-requires
 finish-requires c =
     let lowest : let a = c.args in
     lowest_clean_block (layout_of a.g) (page_at (layout_of a.g) a.chips.now a.c) ≡ At c.in-At.d =
-        sym c.clean_block_on.ensures ∙ c.in-At.is in
+    sym c.clean_block_on.ensures ∙ c.in-At.is in
     (copied_checked c.requires.0 c.requires.1 c.requires.3 c.requires.4 lowest c.requires.5.long c.copy_block-run.ensures c.if-run.false, c.copy_block-run.ensures.sane)
 
 pub returns-else-run : goal.returns-else-run
 returns-else-run c =
     let lowest : let a = c.args in
     lowest_clean_block (layout_of a.g) (page_at (layout_of a.g) a.chips.now a.c) ≡ At c.in-At.d =
-        sym c.clean_block_on.ensures ∙ c.in-At.is in
+    sym c.clean_block_on.ensures ∙ c.in-At.is in
     let h = c.requires in
     collect_ran h.0 h.1 h.3 h.4 lowest h.5.long c.copy_block-run.ensures (c.finish.ensures _ h.5.long)
 

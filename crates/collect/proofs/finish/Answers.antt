@@ -16,7 +16,7 @@ use Rattle.collect.proofs.finish.Goals as goal
 pub end-requires : goal.end-requires
 end-requires c =
     let way : c.collection_at-co.result.phase ≢ 0 → Working c.args.g c.collection_at-co.result =
-        working c.args.g c.args.chips.now c.args.records.now c.requires.0 c.collection_at-co.result c.collection_at-co.ensures in
+    working c.args.g c.args.chips.now c.args.records.now c.requires.0 c.collection_at-co.result c.collection_at-co.ensures in
     let w = way (omega arith) in
     (c.requires.0.chips_fit, c.requires.0.records_pass.fit, w.chip, w.destination, c.requires.1)
 
@@ -30,7 +30,7 @@ returns-then-co-eq1 c =
 pub end-requires-then-co-eq2 : goal.end-requires-then-co-eq2
 end-requires-then-co-eq2 c =
     let way : c.collection_at-co.result.phase ≢ 0 → Working c.args.g c.collection_at-co.result =
-        working c.args.g c.args.chips.now c.args.records.now c.requires.0 c.collection_at-co.result c.collection_at-co.ensures in
+    working c.args.g c.args.chips.now c.args.records.now c.requires.0 c.collection_at-co.result c.collection_at-co.ensures in
     let w = way (omega (arith, c.if-co-eq2.true)) in
     let (zs, e) = some_slots (layout_of c.args.g) in (
       c.requires.0.chips_fit,

@@ -14,13 +14,13 @@ use Rattle.collect.proofs.is_due.Goals as goal
 pub overflow_mul-first : goal.overflow_mul-first
 overflow_mul-first c =
     let victim_small : let a = c.args in a.co.victim * a.g.k + a.g.k < 65536 =
-        omega (arith, apart c.args.g.k c.args.co.victim c.args.g.b c.requires.3, pages_small c.args.g c.requires.0.chips_fit.limited) in
+    omega (arith, apart c.args.g.k c.args.co.victim c.args.g.b c.requires.3, pages_small c.args.g c.requires.0.chips_fit.limited) in
     omega (arith, victim_small)
 
 pub overflow_add-first : goal.overflow_add-first
 overflow_add-first c =
     let victim_small : let a = c.args in a.co.victim * a.g.k + a.g.k < 65536 =
-        omega (arith, apart c.args.g.k c.args.co.victim c.args.g.b c.requires.3, pages_small c.args.g c.requires.0.chips_fit.limited) in
+    omega (arith, apart c.args.g.k c.args.co.victim c.args.g.b c.requires.3, pages_small c.args.g c.requires.0.chips_fit.limited) in
     omega (arith, victim_small)
 
 pub returns-then-p-first : goal.returns-then-p-first
@@ -34,17 +34,17 @@ returns-then-p-first c =
 pub spare_at-u-requires : goal.spare_at-u-requires
 spare_at-u-requires c =
     let original_fits : c.spare_at-t.result.copied < pages (layout_of c.args.g) =
-        let a = c.args in
-        let b = a.co.victim * a.g.k in
-        omega (arith, between b (b + a.g.k) c.spare_at-t.result.copied c.if-p-first.false, apart a.g.k a.co.victim a.g.b c.requires.3) in
+    let a = c.args in
+    let b = a.co.victim * a.g.k in
+    omega (arith, between b (b + a.g.k) c.spare_at-t.result.copied c.if-p-first.false, apart a.g.k a.co.victim a.g.b c.requires.3) in
     (c.requires.0.chips_fit, c.requires.2, original_fits)
 
 pub named_at-requires : goal.named_at-requires
 named_at-requires c =
     let original_fits : c.spare_at-t.result.copied < pages (layout_of c.args.g) =
-        let a = c.args in
-        let b = a.co.victim * a.g.k in
-        omega (arith, between b (b + a.g.k) c.spare_at-t.result.copied c.if-p-first.false, apart a.g.k a.co.victim a.g.b c.requires.3) in
+    let a = c.args in
+    let b = a.co.victim * a.g.k in
+    omega (arith, between b (b + a.g.k) c.spare_at-t.result.copied c.if-p-first.false, apart a.g.k a.co.victim a.g.b c.requires.3) in
     let a = c.args in
     (stamps_pass a.g a.chips.now a.records.now c.requires.0 a.co.chip c.requires.2, original_fits)
 

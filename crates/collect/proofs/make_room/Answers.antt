@@ -28,10 +28,10 @@ pub collect_chip-requires : goal.collect_chip-requires
 collect_chip-requires c =
     let nowhere : let a = c.args in
     place_of (layout_of a.g) (page_at (layout_of a.g) a.chips.now a.c) ≡ Nothing =
-        sym c.place_on.ensures ∙ c.in_default.is in
+    sym c.place_on.ensures ∙ c.in_default.is in
     let victim : let a = c.args in
     victim_of (layout_of a.g) a.c (page_at (layout_of a.g) a.chips.now a.c) (record_at (layout_of a.g) a.records.now) ≡ At c.in-At-v.b =
-        sym (c.requires.2.is nowhere) ∙ c.in-At-v.is in
+    sym (c.requires.2.is nowhere) ∙ c.in-At-v.is in
     let l = layout_of c.args.g in
     let (block, can) = victim_collectable l c.args.c (page_at l c.args.chips.now c.args.c) (record_at l c.args.records.now) _ victim in
     (c.requires.0, c.requires.1, c.requires.3, block, can, c.requires.4, c.requires.5)
@@ -40,10 +40,10 @@ pub returns-in-At-v : goal.returns-in-At-v
 returns-in-At-v c =
     let nowhere : let a = c.args in
     place_of (layout_of a.g) (page_at (layout_of a.g) a.chips.now a.c) ≡ Nothing =
-        sym c.place_on.ensures ∙ c.in_default.is in
+    sym c.place_on.ensures ∙ c.in_default.is in
     let victim : let a = c.args in
     victim_of (layout_of a.g) a.c (page_at (layout_of a.g) a.chips.now a.c) (record_at (layout_of a.g) a.records.now) ≡ At c.in-At-v.b =
-        sym (c.requires.2.is nowhere) ∙ c.in-At-v.is in
+    sym (c.requires.2.is nowhere) ∙ c.in-At-v.is in
     let a = c.args in
     let l = layout_of a.g in
     let s = images a.chips.now a.records.now a.slots.now in
@@ -53,7 +53,7 @@ pub returns-in-Nothing : goal.returns-in-Nothing
 returns-in-Nothing c =
     let nowhere : let a = c.args in
     place_of (layout_of a.g) (page_at (layout_of a.g) a.chips.now a.c) ≡ Nothing =
-        sym c.place_on.ensures ∙ c.in_default.is in
+    sym c.place_on.ensures ∙ c.in_default.is in
     let a = c.args in
     let l = layout_of a.g in
     let v = images a.chips.now a.records.now a.slots.now in

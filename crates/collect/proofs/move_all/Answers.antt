@@ -1,10 +1,9 @@
-use Prim.Native.Nat.{◌-◌}
 use native.Mathlib.Omega.{arith}
 use mathlib.Core.Path.{◌≡◌, sym, ◌∙◌}
 use Rattle.layout.specs.Layout.{layout_of, no_chip}
 use Rattle.layout.specs.Collection.{collection_at}
 use Rattle.names.specs.Checked.{Checked}
-use Rattle.collect.proofs.Moves.{Carried, carried_none, carried_cut, carried_sound, carried_more}
+use Rattle.collect.proofs.Moves.{carried_none, carried_cut, carried_sound, carried_more}
 use Rattle.collect.proofs.move_all.Goals as goal
 
 pub loop-i-init : goal.loop-i-init
@@ -25,9 +24,9 @@ move_from-run-requires c =
     let going : let a = c.args in
     let l = layout_of a.g in
     Checked a.g no_chip a.chips.now c.loop-i.records × (collection_at l c.loop-i.records ≡ collection_at l a.records.now) =
-        let a = c.args in
-        carried_sound a.g a.chips.now a.records.now a.p c.loop-i.i c.loop-i.run c.loop-i.records c.loop-i.invariant
-        c.requires.0 (sym c.requires.1.phase ∙ c.requires.2) c.if-run.false in
+    let a = c.args in
+    carried_sound a.g a.chips.now a.records.now a.p c.loop-i.i c.loop-i.run c.loop-i.records c.loop-i.invariant
+    c.requires.0 (sym c.requires.1.phase ∙ c.requires.2) c.if-run.false in
     (going.0, rw going.1 c.requires.1, c.requires.2, c.loop-i-test.true, c.loop-i.invariant.sane)
 
 pub loop-i-preserved : goal.loop-i-preserved

@@ -1,12 +1,7 @@
 -- After i turns the moves of the places below i are made, as far as the allowance goes. While the call is not cut the images stay
 -- sound, and where it is cut no store is made of the places that are left.
 use Prim.Native.Nat.{◌-◌}
-use native.Mathlib.Omega.{arith}
-use mathlib.Core.Path.{◌≡◌, sym, ◌∙◌}
-use Rattle.layout.specs.Layout.{layout_of, no_chip}
-use Rattle.layout.specs.Collection.{collection_at}
-use Rattle.names.specs.Checked.{Checked}
-use Rattle.collect.proofs.Moves.{Carried, carried_none, carried_cut, carried_sound, carried_more}
+use Rattle.collect.proofs.Moves.{Carried}
 use Rattle.collect.proofs.move_all.Given as goal
 
 abbrev pub invariant-loop-i : goal.invariant-loop-i

@@ -19,27 +19,27 @@ pub overflow_mul-q : goal.overflow_mul-q
 overflow_mul-q c =
     let fits : let a = c.args in
     (a.co.destination * a.g.k + a.i < pages (layout_of a.g)) × (pages (layout_of a.g) ≤ 65535) =
-        let a = c.args in
-        (page_fits a.g a.chips.now a.records.now c.requires.0 a.co c.requires.1 c.requires.2 a.i c.requires.3, pages_small a.g c.requires.0.chips_fit.limited) in
+    let a = c.args in
+    (page_fits a.g a.chips.now a.records.now c.requires.0 a.co c.requires.1 c.requires.2 a.i c.requires.3, pages_small a.g c.requires.0.chips_fit.limited) in
     omega (arith, fits)
 
 pub overflow_add-q : goal.overflow_add-q
 overflow_add-q c =
     let fits : let a = c.args in
     (a.co.destination * a.g.k + a.i < pages (layout_of a.g)) × (pages (layout_of a.g) ≤ 65535) =
-        let a = c.args in
-        (page_fits a.g a.chips.now a.records.now c.requires.0 a.co c.requires.1 c.requires.2 a.i c.requires.3, pages_small a.g c.requires.0.chips_fit.limited) in
+    let a = c.args in
+    (page_fits a.g a.chips.now a.records.now c.requires.0 a.co c.requires.1 c.requires.2 a.i c.requires.3, pages_small a.g c.requires.0.chips_fit.limited) in
     omega (arith, fits)
 
 pub is_due-requires : goal.is_due-requires
 is_due-requires c =
     let way : Working c.args.g c.args.co =
-        let a = c.args in
-        under_way a.g a.chips.now a.records.now c.requires.0 a.co c.requires.1 c.requires.2 a.i c.requires.3 in
+    let a = c.args in
+    under_way a.g a.chips.now a.records.now c.requires.0 a.co c.requires.1 c.requires.2 a.i c.requires.3 in
     let fits : let a = c.args in
     (a.co.destination * a.g.k + a.i < pages (layout_of a.g)) × (pages (layout_of a.g) ≤ 65535) =
-        let a = c.args in
-        (page_fits a.g a.chips.now a.records.now c.requires.0 a.co c.requires.1 c.requires.2 a.i c.requires.3, pages_small a.g c.requires.0.chips_fit.limited) in
+    let a = c.args in
+    (page_fits a.g a.chips.now a.records.now c.requires.0 a.co c.requires.1 c.requires.2 a.i c.requires.3, pages_small a.g c.requires.0.chips_fit.limited) in
     (c.requires.0, c.requires.1, way.chip, way.victim, fits.0)
 
 pub returns-then-not-is_due : goal.returns-then-not-is_due
@@ -54,50 +54,50 @@ returns-then-not-is_due c =
 pub spare_at-t-requires : goal.spare_at-t-requires
 spare_at-t-requires c =
     let way : Working c.args.g c.args.co =
-        let a = c.args in
-        under_way a.g a.chips.now a.records.now c.requires.0 a.co c.requires.1 c.requires.2 a.i c.requires.3 in
+    let a = c.args in
+    under_way a.g a.chips.now a.records.now c.requires.0 a.co c.requires.1 c.requires.2 a.i c.requires.3 in
     let fits : let a = c.args in
     (a.co.destination * a.g.k + a.i < pages (layout_of a.g)) × (pages (layout_of a.g) ≤ 65535) =
-        let a = c.args in
-        (page_fits a.g a.chips.now a.records.now c.requires.0 a.co c.requires.1 c.requires.2 a.i c.requires.3, pages_small a.g c.requires.0.chips_fit.limited) in
+    let a = c.args in
+    (page_fits a.g a.chips.now a.records.now c.requires.0 a.co c.requires.1 c.requires.2 a.i c.requires.3, pages_small a.g c.requires.0.chips_fit.limited) in
     (c.requires.0.chips_fit, way.chip, fits.0)
 
 pub record_at-requires : goal.record_at-requires
 record_at-requires c =
     let stripe_fits : c.spare_at-t.result.stripe < c.args.g.s =
-        let a = c.args in
-        let on = sym c.is_due.ensures ∙ not-false c.is_due.result c.if-not-is_due.false-raw in
-        due_stripe a.g a.chips.now a.records.now c.requires.0 a.co c.requires.1 c.requires.2 a.i c.requires.3 on
-        c.spare_at-t.result c.spare_at-t.ensures.0 in
+    let a = c.args in
+    let on = sym c.is_due.ensures ∙ not-false c.is_due.result c.if-not-is_due.false-raw in
+    due_stripe a.g a.chips.now a.records.now c.requires.0 a.co c.requires.1 c.requires.2 a.i c.requires.3 on
+    c.spare_at-t.result c.spare_at-t.ensures.0 in
     (c.requires.0.records_pass.fit, stripe_fits)
 
 pub repoint-e-requires : goal.repoint-e-requires
 repoint-e-requires c =
     let way : Working c.args.g c.args.co =
-        let a = c.args in
-        under_way a.g a.chips.now a.records.now c.requires.0 a.co c.requires.1 c.requires.2 a.i c.requires.3 in
+    let a = c.args in
+    under_way a.g a.chips.now a.records.now c.requires.0 a.co c.requires.1 c.requires.2 a.i c.requires.3 in
     let fits : let a = c.args in
     (a.co.destination * a.g.k + a.i < pages (layout_of a.g)) × (pages (layout_of a.g) ≤ 65535) =
-        let a = c.args in
-        (page_fits a.g a.chips.now a.records.now c.requires.0 a.co c.requires.1 c.requires.2 a.i c.requires.3, pages_small a.g c.requires.0.chips_fit.limited) in
+    let a = c.args in
+    (page_fits a.g a.chips.now a.records.now c.requires.0 a.co c.requires.1 c.requires.2 a.i c.requires.3, pages_small a.g c.requires.0.chips_fit.limited) in
     (c.requires.0.chips_fit.limited, way.chip, c.record_at.ensures.1, omega (arith, fits))
 
 pub store_record-requires : goal.store_record-requires
 store_record-requires c =
     let stripe_fits : c.spare_at-t.result.stripe < c.args.g.s =
-        let a = c.args in
-        let on = sym c.is_due.ensures ∙ not-false c.is_due.result c.if-not-is_due.false-raw in
-        due_stripe a.g a.chips.now a.records.now c.requires.0 a.co c.requires.1 c.requires.2 a.i c.requires.3 on
-        c.spare_at-t.result c.spare_at-t.ensures.0 in
+    let a = c.args in
+    let on = sym c.is_due.ensures ∙ not-false c.is_due.result c.if-not-is_due.false-raw in
+    due_stripe a.g a.chips.now a.records.now c.requires.0 a.co c.requires.1 c.requires.2 a.i c.requires.3 on
+    c.spare_at-t.result c.spare_at-t.ensures.0 in
     (c.requires.0.records_pass.fit, stripe_fits, c.repoint-e.ensures.1, c.requires.4)
 
 pub returns : goal.returns
 returns c =
     let stripe_fits : c.spare_at-t.result.stripe < c.args.g.s =
-        let a = c.args in
-        let on = sym c.is_due.ensures ∙ not-false c.is_due.result c.if-not-is_due.false-raw in
-        due_stripe a.g a.chips.now a.records.now c.requires.0 a.co c.requires.1 c.requires.2 a.i c.requires.3 on
-        c.spare_at-t.result c.spare_at-t.ensures.0 in
+    let a = c.args in
+    let on = sym c.is_due.ensures ∙ not-false c.is_due.result c.if-not-is_due.false-raw in
+    due_stripe a.g a.chips.now a.records.now c.requires.0 a.co c.requires.1 c.requires.2 a.i c.requires.3 on
+    c.spare_at-t.result c.spare_at-t.ensures.0 in
     let a = c.args in
     let on = sym c.is_due.ensures ∙ not-false c.is_due.result c.if-not-is_due.false-raw in
     let is = c.record_at.ensures.0 ∙ ended_same ((stripes a.g a.chips.now a.records.now c.requires.0).stripe c.spare_at-t.result.stripe stripe_fits).rest in

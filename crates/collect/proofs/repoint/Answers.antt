@@ -2,7 +2,7 @@
 -- value's type says.
 use native.Mathlib.Omega.{arith}
 use mathlib.Core.Path.{◌≡◌, sym, ◌∙◌}
-use lib.ListN.{length, length-map}
+use lib.ListN.{length}
 use Rattle.layout.specs.Layout.{layout_of}
 use Rattle.collect.proofs.Repointing.{parity_moved, member_moved}
 use Rattle.collect.proofs.repoint.Goals as goal

@@ -23,7 +23,7 @@ returns-then-run c =
     let s = images a.chips.now a.records.now a.slots.now in
     Ran l a.p (room_steps l c.parity_chip-c.result s) c.make_room-run.result s
     (images c.make_room-run.new.chips c.make_room-run.new.records a.slots.now) =
-        c.make_room-run.ensures in
+    c.make_room-run.ensures in
     let on = c.parity_chip-c.ensures in
     let fill = commit_at (layout_of c.args.g) c.args.j in
     placed_on (layout_of c.args.g) on.0 fill (placed_cut c.requires.0 c.requires.1 on.1 made fill c.if-run.true)
@@ -35,7 +35,7 @@ place_on-requires c =
     let s = images a.chips.now a.records.now a.slots.now in
     Ran l a.p (room_steps l c.parity_chip-c.result s) c.make_room-run.result s
     (images c.make_room-run.new.chips c.make_room-run.new.records a.slots.now) =
-        c.make_room-run.ensures in
+    c.make_room-run.ensures in
     let h = c.requires in
     let low = c.parity_chip-c.ensures.1 in
     ordered (room_settled h.0 h.1 low made c.if-run.false).checked low
@@ -47,7 +47,7 @@ commit_at-requires c =
     let s = images a.chips.now a.records.now a.slots.now in
     Ran l a.p (room_steps l c.parity_chip-c.result s) c.make_room-run.result s
     (images c.make_room-run.new.chips c.make_room-run.new.records a.slots.now) =
-        c.make_room-run.ensures in
+    c.make_room-run.ensures in
     let h = c.requires in
     let low = c.parity_chip-c.ensures.1 in
     let going = c.if-run.false in
@@ -71,7 +71,7 @@ returns-in-At c =
     let s = images a.chips.now a.records.now a.slots.now in
     Ran l a.p (room_steps l c.parity_chip-c.result s) c.make_room-run.result s
     (images c.make_room-run.new.chips c.make_room-run.new.records a.slots.now) =
-        c.make_room-run.ensures in
+    c.make_room-run.ensures in
     let on = c.parity_chip-c.ensures in
     let fill = commit_at (layout_of c.args.g) c.args.j in
     placed_on (layout_of c.args.g) on.0 fill
@@ -85,7 +85,7 @@ returns-in-Nothing c =
     let s = images a.chips.now a.records.now a.slots.now in
     Ran l a.p (room_steps l c.parity_chip-c.result s) c.make_room-run.result s
     (images c.make_room-run.new.chips c.make_room-run.new.records a.slots.now) =
-        c.make_room-run.ensures in
+    c.make_room-run.ensures in
     let on = c.parity_chip-c.ensures in
     let fill = commit_at (layout_of c.args.g) c.args.j in
     placed_on (layout_of c.args.g) on.0 fill

@@ -1,11 +1,10 @@
-use Prim.Native.Nat.{◌-◌}
 use native.Mathlib.Omega.{arith}
 use Rattle.layout.specs.Layout.{layout_of}
 use Rattle.layout.specs.Record.{record_at}
 use Rattle.layout.proofs.Limits.{within}
 use Rattle.rules.proofs.Soundness.RecordChecks.{record_sound_lem}
 use Rattle.fetch.specs.Into.{others}
-use Rattle.fetch.proofs.Pages.{Gathered, gathered_none, gathered_more, gathered_all}
+use Rattle.fetch.proofs.Pages.{gathered_none, gathered_more, gathered_all}
 use Rattle.fetch.proofs.Others.{others_fit}
 use Rattle.fetch.proofs.gather.Goals as goal
 

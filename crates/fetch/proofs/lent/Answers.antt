@@ -21,14 +21,14 @@ pub page_data-requires : goal.page_data-requires
 page_data-requires c =
     let low : c.args.m < 6 = six c.args.g c.requires.0.limited c.requires.4 in
     let number : c.number_in-number.result ≡ (record_at (layout_of c.args.g) c.args.records.now c.args.j).current c.args.m =
-        c.number_in-number.ensures.0 ∙ number_current (record_at (layout_of c.args.g) c.args.records.now c.args.j) c.args.m low in
+    c.number_in-number.ensures.0 ∙ number_current (record_at (layout_of c.args.g) c.args.records.now c.args.j) c.args.m low in
     (c.requires.0, omega (arith, c.chip_beside.ensures.1, c.requires.4), rw number (c.requires.6 c.if-direct.true))
 
 pub returns-then-direct : goal.returns-then-direct
 returns-then-direct c =
     let low : c.args.m < 6 = six c.args.g c.requires.0.limited c.requires.4 in
     let number : c.number_in-number.result ≡ (record_at (layout_of c.args.g) c.args.records.now c.args.j).current c.args.m =
-        c.number_in-number.ensures.0 ∙ number_current (record_at (layout_of c.args.g) c.args.records.now c.args.j) c.args.m low in
+    c.number_in-number.ensures.0 ∙ number_current (record_at (layout_of c.args.g) c.args.records.now c.args.j) c.args.m low in
     let page = c.page_data.ensures in (
       page.0 ∙ rw (c.if-direct.true, number, c.chip_beside.ensures.0 (layout_of c.args.g) c.args.j c.requires.5),
       page.1,

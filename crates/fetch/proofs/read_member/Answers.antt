@@ -27,7 +27,7 @@ slice_bounds-copy-end c =
     let front : let w = c.args.g.w in
     let work = c.fetch_member-got.new.buffer ++ drop (w - 0) (replicate 4096 0) in
     (w ≤ length work) × (take (w - 0) work ≡ c.fetch_member-got.new.buffer) =
-        front_back c.args.g.w 4096 narrow c.fetch_member-got.auto.buffer refl in
+    front_back c.args.g.w 4096 narrow c.fetch_member-got.auto.buffer refl in
     front.0
 
 pub copy-requires : goal.copy-requires
@@ -36,7 +36,7 @@ copy-requires c =
     let front : let w = c.args.g.w in
     let work = c.fetch_member-got.new.buffer ++ drop (w - 0) (replicate 4096 0) in
     (w ≤ length work) × (take (w - 0) work ≡ c.fetch_member-got.new.buffer) =
-        front_back c.args.g.w 4096 narrow c.fetch_member-got.auto.buffer refl in
+    front_back c.args.g.w 4096 narrow c.fetch_member-got.auto.buffer refl in
     ap (λ (xs : List ℕ). length xs) front.1 ∙ c.fetch_member-got.auto.buffer ∙ front_long c.args.g.w 4096 narrow ∙ sym c.requires.3
 
 pub returns : goal.returns
@@ -45,5 +45,5 @@ returns c =
     let front : let w = c.args.g.w in
     let work = c.fetch_member-got.new.buffer ++ drop (w - 0) (replicate 4096 0) in
     (w ≤ length work) × (take (w - 0) work ≡ c.fetch_member-got.new.buffer) =
-        front_back c.args.g.w 4096 narrow c.fetch_member-got.auto.buffer refl in
+    front_back c.args.g.w 4096 narrow c.fetch_member-got.auto.buffer refl in
     rw (c.copy.ensures ∙ front.1) c.fetch_member-got.ensures.0

@@ -27,12 +27,12 @@ pub returns-then-number_in-p : goal.returns-then-number_in-p
 unfolding role_of
 returns-then-number_in-p c =
     let other : let a = c.args in eqb a.c (parity_chip (layout_of a.g) a.j) ≡ false =
-        let a = c.args in
-        ne_eqb a.c (parity_chip (layout_of a.g) a.j) (λ e. c.if-c-parity.false (e ∙ sym c.parity_chip-parity.ensures.0)) in
+    let a = c.args in
+    ne_eqb a.c (parity_chip (layout_of a.g) a.j) (λ e. c.if-c-parity.false (e ∙ sym c.parity_chip-parity.ensures.0)) in
     let number : let a = c.args in
     (record_at (layout_of a.g) a.records.now a.j).current c.member_on-m.result ≡ c.number_in.result =
-        let a = c.args in
-        sym (c.number_in.ensures.0 ∙ number_current (record_at (layout_of a.g) a.records.now a.j) c.member_on-m.result c.member_on-m.ensures.2) in
+    let a = c.args in
+    sym (c.number_in.ensures.0 ∙ number_current (record_at (layout_of a.g) a.records.now a.j) c.member_on-m.result c.member_on-m.ensures.2) in
     let a = c.args in
     let (are, low, six) = c.member_on-m.ensures in
     let is = are a.j c.parity_chip-parity.ensures.0 in
@@ -42,12 +42,12 @@ pub returns : goal.returns
 unfolding role_of
 returns c =
     let other : let a = c.args in eqb a.c (parity_chip (layout_of a.g) a.j) ≡ false =
-        let a = c.args in
-        ne_eqb a.c (parity_chip (layout_of a.g) a.j) (λ e. c.if-c-parity.false (e ∙ sym c.parity_chip-parity.ensures.0)) in
+    let a = c.args in
+    ne_eqb a.c (parity_chip (layout_of a.g) a.j) (λ e. c.if-c-parity.false (e ∙ sym c.parity_chip-parity.ensures.0)) in
     let number : let a = c.args in
     (record_at (layout_of a.g) a.records.now a.j).current c.member_on-m.result ≡ c.number_in.result =
-        let a = c.args in
-        sym (c.number_in.ensures.0 ∙ number_current (record_at (layout_of a.g) a.records.now a.j) c.member_on-m.result c.member_on-m.ensures.2) in
+    let a = c.args in
+    sym (c.number_in.ensures.0 ∙ number_current (record_at (layout_of a.g) a.records.now a.j) c.member_on-m.result c.member_on-m.ensures.2) in
     let a = c.args in
     let (are, low, six) = c.member_on-m.ensures in
     let is = are a.j c.parity_chip-parity.ensures.0 in

@@ -18,8 +18,7 @@ new_parity-reads-requires c =
 
 pub program-run-requires : goal.program-run-requires
 program-run-requires c =
-    let limits : Within (layout_of c.args.g) = within (layout_of c.args.g) c.requires.0.limited in
-    (
+    let limits : Within (layout_of c.args.g) = within (layout_of c.args.g) c.requires.0.limited in (
       c.requires.0,
       c.parity_chip.ensures.1,
       c.requires.5,

@@ -8,8 +8,7 @@ use Rattle.parity.proofs.committed.Goals as goal
 
 pub returns : goal.returns
 unfolding record_from committed none
-returns c =
-    (
+returns c = (
   λ g. rw (no_olds g),
   record {
     current = c.requires.0.current;

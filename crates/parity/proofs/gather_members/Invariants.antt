@@ -1,14 +1,6 @@
 -- After m turns the pages of the first m members are in, of those that belong.
 use Prim.Native.Nat.{◌-◌}
-use native.Mathlib.Omega.{arith}
-use mathlib.Core.Path.{◌≡◌}
-use mathlib.Core.Logic.{⊎_elim}
-use Rattle.layout.specs.Layout.{layout_of, no_chip}
-use Rattle.steps.specs.Allowance.{images}
-use Rattle.fetch.proofs.Pages.{fetched_from}
-use Rattle.layout.proofs.Limits.{within}
-use Rattle.parity.specs.Members.{member_role}
-use Rattle.parity.proofs.Parities.{Members, member_fits, members_none, members_more, members_skip, members_all}
+use Rattle.parity.proofs.Parities.{Members}
 use Rattle.parity.proofs.gather_members.Given as goal
 
 abbrev pub invariant-loop-m : goal.invariant-loop-m

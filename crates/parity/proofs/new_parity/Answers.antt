@@ -32,13 +32,13 @@ unfolding record_from
 returns-then-most_in_partial c =
     let first : let a = c.args in
     c.copy.new.dst ≡ slot_at (layout_of a.g) a.slots.now (record_from (layout_of a.g) a.e).slot =
-        c.copy.ensures ∙ c.slot_data.ensures.0 in
+    c.copy.ensures ∙ c.slot_data.ensures.0 in
     let told : let a = c.args in
     let l = layout_of a.g in
     most_in_partial l.N (set_bits l (record_from l a.e)) ≡ c.most_in_partial.result =
-        let a = c.args in
-        let l = layout_of a.g in
-        sym (c.most_in_partial.ensures ∙ ap (most_in_partial l.N) (c.set_bits.ensures.0 (record_from l a.e) refl)) in
+    let a = c.args in
+    let l = layout_of a.g in
+    sym (c.most_in_partial.ensures ∙ ap (most_in_partial l.N) (c.set_bits.ensures.0 (record_from l a.e) refl)) in
     let a = c.args in
     let called = c.gather_members.ensures in
     parity_outside a.g (within (layout_of a.g) c.requires.0.limited) a.chips.now a.slots.now a.j a.e first (told ∙ c.if-most_in_partial.true) called.0 called.1
@@ -54,13 +54,13 @@ unfolding record_from
 returns c =
     let first : let a = c.args in
     c.copy.new.dst ≡ slot_at (layout_of a.g) a.slots.now (record_from (layout_of a.g) a.e).slot =
-        c.copy.ensures ∙ c.slot_data.ensures.0 in
+    c.copy.ensures ∙ c.slot_data.ensures.0 in
     let told : let a = c.args in
     let l = layout_of a.g in
     most_in_partial l.N (set_bits l (record_from l a.e)) ≡ c.most_in_partial.result =
-        let a = c.args in
-        let l = layout_of a.g in
-        sym (c.most_in_partial.ensures ∙ ap (most_in_partial l.N) (c.set_bits.ensures.0 (record_from l a.e) refl)) in
+    let a = c.args in
+    let l = layout_of a.g in
+    sym (c.most_in_partial.ensures ∙ ap (most_in_partial l.N) (c.set_bits.ensures.0 (record_from l a.e) refl)) in
     let a = c.args in
     let called = c.gather_members-2.ensures in
     parity_inside a.g (within (layout_of a.g) c.requires.0.limited) a.chips.now a.slots.now a.j a.e first (told ∙ c.if-most_in_partial.false)

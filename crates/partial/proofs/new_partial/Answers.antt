@@ -2,7 +2,6 @@
 use Prim.Native.Nat.{ℕ}
 use native.Mathlib.Omega.{arith}
 use mathlib.Core.Path.{◌≡◌, sym, ◌∙◌}
-use mathlib.Core.Logic.{⊎_elim}
 use mathlib.Core.List.{List}
 use lib.ListN.{length}
 use Rattle.octets.specs.Xor.{◌⊕◌}
@@ -38,65 +37,65 @@ fetch-got-requires c = (c.requires.0, c.requires.1, c.requires.2, c.copy-2.auto.
 pub xor_into-requires : goal.xor_into-requires
 xor_into-requires c =
     let Partial : List ℕ → ℕ → Type 0 =
-        let a = c.args in IsPartial a.g a.chips.now a.slots.now a.j a.m a.bytes.now a.e in
+    let a = c.args in IsPartial a.g a.chips.now a.slots.now a.j a.m a.bytes.now a.e in
     let joined : (length c.if-bit_of.work ≡ c.args.g.w) × Partial (c.if-bit_of.work ⊕ c.args.bytes.now) c.if-bit_of.reads =
-        let a = c.args in
-        let slot = c.copy-2.ensures ∙ c.slot_data.ensures.0 in
-        let has = c.if-e-eq-NO_SLOT.false in
-        let bit = sym c.bit_of.ensures in
-        elim c.if-bit_of.branch [
-          | then-bit_of w ↦ (
-          rw w.work-is (w.fetch-got.auto.work ∙ c.copy-2.auto.dst ∙ c.requires.3),
-          rw (w.work-is, w.reads-is) (with_bit a.g a.chips.now a.slots.now a.j a.m a.bytes.now a.e has slot (bit ∙ w.if-bit_of.true)
-              (fetched_from (layout_of a.g) (images a.chips.now a.records.now a.slots.now) no_chip a.j (Current a.m) c.requires.7 w.fetch-got.ensures)),
-        )
-          | else-bit_of w ↦ (
-          rw w.work-is (c.copy-2.auto.dst ∙ c.requires.3),
-          rw (w.work-is, w.reads-is) (without_bit a.g a.chips.now a.slots.now a.j a.m a.bytes.now a.e has slot (bit ∙ w.if-bit_of.false)),
-        )
-        ] in
+    let a = c.args in
+    let slot = c.copy-2.ensures ∙ c.slot_data.ensures.0 in
+    let has = c.if-e-eq-NO_SLOT.false in
+    let bit = sym c.bit_of.ensures in
+    elim c.if-bit_of.branch [
+      | then-bit_of w ↦ (
+        rw w.work-is (w.fetch-got.auto.work ∙ c.copy-2.auto.dst ∙ c.requires.3),
+        rw (w.work-is, w.reads-is) (with_bit a.g a.chips.now a.slots.now a.j a.m a.bytes.now a.e has slot (bit ∙ w.if-bit_of.true)
+            (fetched_from (layout_of a.g) (images a.chips.now a.records.now a.slots.now) no_chip a.j (Current a.m) c.requires.7 w.fetch-got.ensures)),
+      )
+      | else-bit_of w ↦ (
+        rw w.work-is (c.copy-2.auto.dst ∙ c.requires.3),
+        rw (w.work-is, w.reads-is) (without_bit a.g a.chips.now a.slots.now a.j a.m a.bytes.now a.e has slot (bit ∙ w.if-bit_of.false)),
+      )
+    ] in
     c.requires.4 ∙ sym joined.0
 
 pub shape_of-work : goal.shape_of-work
 shape_of-work c =
     let Partial : List ℕ → ℕ → Type 0 =
-        let a = c.args in IsPartial a.g a.chips.now a.slots.now a.j a.m a.bytes.now a.e in
+    let a = c.args in IsPartial a.g a.chips.now a.slots.now a.j a.m a.bytes.now a.e in
     let joined : (length c.if-bit_of.work ≡ c.args.g.w) × Partial (c.if-bit_of.work ⊕ c.args.bytes.now) c.if-bit_of.reads =
-        let a = c.args in
-        let slot = c.copy-2.ensures ∙ c.slot_data.ensures.0 in
-        let has = c.if-e-eq-NO_SLOT.false in
-        let bit = sym c.bit_of.ensures in
-        elim c.if-bit_of.branch [
-          | then-bit_of w ↦ (
-          rw w.work-is (w.fetch-got.auto.work ∙ c.copy-2.auto.dst ∙ c.requires.3),
-          rw (w.work-is, w.reads-is) (with_bit a.g a.chips.now a.slots.now a.j a.m a.bytes.now a.e has slot (bit ∙ w.if-bit_of.true)
-              (fetched_from (layout_of a.g) (images a.chips.now a.records.now a.slots.now) no_chip a.j (Current a.m) c.requires.7 w.fetch-got.ensures)),
-        )
-          | else-bit_of w ↦ (
-          rw w.work-is (c.copy-2.auto.dst ∙ c.requires.3),
-          rw (w.work-is, w.reads-is) (without_bit a.g a.chips.now a.slots.now a.j a.m a.bytes.now a.e has slot (bit ∙ w.if-bit_of.false)),
-        )
-        ] in
+    let a = c.args in
+    let slot = c.copy-2.ensures ∙ c.slot_data.ensures.0 in
+    let has = c.if-e-eq-NO_SLOT.false in
+    let bit = sym c.bit_of.ensures in
+    elim c.if-bit_of.branch [
+      | then-bit_of w ↦ (
+        rw w.work-is (w.fetch-got.auto.work ∙ c.copy-2.auto.dst ∙ c.requires.3),
+        rw (w.work-is, w.reads-is) (with_bit a.g a.chips.now a.slots.now a.j a.m a.bytes.now a.e has slot (bit ∙ w.if-bit_of.true)
+            (fetched_from (layout_of a.g) (images a.chips.now a.records.now a.slots.now) no_chip a.j (Current a.m) c.requires.7 w.fetch-got.ensures)),
+      )
+      | else-bit_of w ↦ (
+        rw w.work-is (c.copy-2.auto.dst ∙ c.requires.3),
+        rw (w.work-is, w.reads-is) (without_bit a.g a.chips.now a.slots.now a.j a.m a.bytes.now a.e has slot (bit ∙ w.if-bit_of.false)),
+      )
+    ] in
     c.xor_into.auto.dst ∙ joined.0 ∙ sym c.requires.3
 
 pub returns : goal.returns
 returns c =
     let Partial : List ℕ → ℕ → Type 0 =
-        let a = c.args in IsPartial a.g a.chips.now a.slots.now a.j a.m a.bytes.now a.e in
+    let a = c.args in IsPartial a.g a.chips.now a.slots.now a.j a.m a.bytes.now a.e in
     let joined : (length c.if-bit_of.work ≡ c.args.g.w) × Partial (c.if-bit_of.work ⊕ c.args.bytes.now) c.if-bit_of.reads =
-        let a = c.args in
-        let slot = c.copy-2.ensures ∙ c.slot_data.ensures.0 in
-        let has = c.if-e-eq-NO_SLOT.false in
-        let bit = sym c.bit_of.ensures in
-        elim c.if-bit_of.branch [
-          | then-bit_of w ↦ (
-          rw w.work-is (w.fetch-got.auto.work ∙ c.copy-2.auto.dst ∙ c.requires.3),
-          rw (w.work-is, w.reads-is) (with_bit a.g a.chips.now a.slots.now a.j a.m a.bytes.now a.e has slot (bit ∙ w.if-bit_of.true)
-              (fetched_from (layout_of a.g) (images a.chips.now a.records.now a.slots.now) no_chip a.j (Current a.m) c.requires.7 w.fetch-got.ensures)),
-        )
-          | else-bit_of w ↦ (
-          rw w.work-is (c.copy-2.auto.dst ∙ c.requires.3),
-          rw (w.work-is, w.reads-is) (without_bit a.g a.chips.now a.slots.now a.j a.m a.bytes.now a.e has slot (bit ∙ w.if-bit_of.false)),
-        )
-        ] in
+    let a = c.args in
+    let slot = c.copy-2.ensures ∙ c.slot_data.ensures.0 in
+    let has = c.if-e-eq-NO_SLOT.false in
+    let bit = sym c.bit_of.ensures in
+    elim c.if-bit_of.branch [
+      | then-bit_of w ↦ (
+        rw w.work-is (w.fetch-got.auto.work ∙ c.copy-2.auto.dst ∙ c.requires.3),
+        rw (w.work-is, w.reads-is) (with_bit a.g a.chips.now a.slots.now a.j a.m a.bytes.now a.e has slot (bit ∙ w.if-bit_of.true)
+            (fetched_from (layout_of a.g) (images a.chips.now a.records.now a.slots.now) no_chip a.j (Current a.m) c.requires.7 w.fetch-got.ensures)),
+      )
+      | else-bit_of w ↦ (
+        rw w.work-is (c.copy-2.auto.dst ∙ c.requires.3),
+        rw (w.work-is, w.reads-is) (without_bit a.g a.chips.now a.slots.now a.j a.m a.bytes.now a.e has slot (bit ∙ w.if-bit_of.false)),
+      )
+    ] in
     rw c.xor_into.ensures joined.1

@@ -24,10 +24,10 @@ pub store_slot-run-requires : goal.store_slot-run-requires
 store_slot-run-requires c =
     let found : let a = c.args in
     lowest_free_slot (layout_of a.g) (record_at (layout_of a.g) a.records.now) ≡ At c.in-At.i =
-        sym c.requires.10 ∙ c.in-At.is in
+    sym c.requires.10 ∙ c.in-At.is in
     let fits : c.in-At.i ≤ c.args.g.m =
-        let a = c.args in
-        free_fits a.g (record_at (layout_of a.g) a.records.now) c.in-At.i found in
+    let a = c.args in
+    free_fits a.g (record_at (layout_of a.g) a.records.now) c.in-At.i found in
     (c.requires.2, fits, c.new_partial-reads.auto.work ∙ c.requires.3, c.new_partial-reads.ensures.2, c.requires.9)
 
 pub written-requires : goal.written-requires
@@ -35,10 +35,10 @@ unfolding none
 written-requires c =
     let found : let a = c.args in
     lowest_free_slot (layout_of a.g) (record_at (layout_of a.g) a.records.now) ≡ At c.in-At.i =
-        sym c.requires.10 ∙ c.in-At.is in
+    sym c.requires.10 ∙ c.in-At.is in
     let fits : c.in-At.i ≤ c.args.g.m =
-        let a = c.args in
-        free_fits a.g (record_at (layout_of a.g) a.records.now) c.in-At.i found in
+    let a = c.args in
+    free_fits a.g (record_at (layout_of a.g) a.records.now) c.in-At.i found in
     let w = within (layout_of c.args.g) c.requires.0.limited in (
       c.record_at-e.ensures.1,
       omega (arith, c.requires.5, w.members_high),
@@ -53,7 +53,7 @@ pub returns-in-At : goal.returns-in-At
 returns-in-At c =
     let found : let a = c.args in
     lowest_free_slot (layout_of a.g) (record_at (layout_of a.g) a.records.now) ≡ At c.in-At.i =
-        sym c.requires.10 ∙ c.in-At.is in
+    sym c.requires.10 ∙ c.in-At.is in
     let a = c.args in
     let l = layout_of a.g in
     let x = a.chips.now in

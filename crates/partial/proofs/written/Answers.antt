@@ -1,8 +1,6 @@
 -- The bit tells which of the two records is made. The arrays have six numbers each, as the value's type says.
-use native.Mathlib.Omega.{arith}
 use mathlib.Core.Path.{◌≡◌, sym, ◌∙◌}
-use mathlib.Core.Logic.{⊎_elim}
-use lib.ListN.{length, length-map}
+use lib.ListN.{length}
 use borrow.Author.Tests.{not-true, not-false}
 use Rattle.partial.proofs.Writing.{written_again, written_first}
 use Rattle.partial.proofs.written.Goals as goal

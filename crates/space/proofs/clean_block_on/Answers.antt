@@ -1,10 +1,8 @@
-use Prim.Native.Nat.{ℕ, ◌-◌, ◌≤◌}
+use Prim.Native.Nat.{ℕ}
 use native.Mathlib.Numerals.{add-one}
 use native.Mathlib.Omega.{arith}
 use mathlib.Core.Path.{◌≡◌, sym, ◌∙◌}
 use mathlib.Core.Bool.{Bool}
-use Rattle.ranges.specs.declared.Found.TheVariants.{Nothing}
-use Rattle.ranges.specs.Look.{first_below}
 use Rattle.ranges.proofs.Looks.{first_start, first_not_here, first_nothing, first_is}
 use Rattle.layout.specs.Layout.{layout_of}
 use Rattle.layout.specs.Page.{page_at}

@@ -1,16 +1,11 @@
 -- The loop's invariant: no block below b is clean.
-use Prim.Native.Nat.{ℕ, ◌-◌, ◌≤◌}
-use native.Mathlib.Numerals.{add-one}
-use native.Mathlib.Omega.{arith}
-use mathlib.Core.Path.{◌≡◌, sym, ◌∙◌}
-use mathlib.Core.Bool.{Bool}
+use Prim.Native.Nat.{◌-◌, ◌≤◌}
+use mathlib.Core.Path.{◌≡◌}
 use Rattle.ranges.specs.declared.Found.TheVariants.{Nothing}
 use Rattle.ranges.specs.Look.{first_below}
-use Rattle.ranges.proofs.Looks.{first_start, first_not_here, first_nothing, first_is}
 use Rattle.layout.specs.Layout.{layout_of}
 use Rattle.layout.specs.Page.{page_at}
-use Rattle.rules.specs.Blocks.{clean_block, lowest_clean_block}
-use Rattle.space.proofs.Blocks.{first_page, first_tells}
+use Rattle.rules.specs.Blocks.{clean_block}
 use Rattle.space.proofs.clean_block_on.Given as goal
 
 abbrev pub invariant-loop-b : goal.invariant-loop-b

@@ -1,9 +1,7 @@
-use Prim.Native.Nat.{◌-◌, ◌/◌, ◌≤◌}
+use Prim.Native.Nat.{◌/◌}
 use native.Mathlib.Omega.{arith}
 use mathlib.Core.Path.{◌≡◌, sym}
 use lib.ListN.{length}
-use Rattle.ranges.specs.Look.{all_below}
-use Rattle.ticket_log.specs.Walks.{is_plain}
 use Rattle.ticket_log.proofs.Seeing.{plain_none, plain_more}
 use Rattle.ticket_log.proofs.all_plain.Goals as goal
 

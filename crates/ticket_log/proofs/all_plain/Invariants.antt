@@ -1,11 +1,8 @@
 -- The tickets before place i are plain where the loop says so.
-use Prim.Native.Nat.{◌-◌, ◌/◌, ◌≤◌}
-use native.Mathlib.Omega.{arith}
-use mathlib.Core.Path.{◌≡◌, sym}
-use lib.ListN.{length}
+use Prim.Native.Nat.{◌-◌, ◌≤◌}
+use mathlib.Core.Path.{◌≡◌}
 use Rattle.ranges.specs.Look.{all_below}
 use Rattle.ticket_log.specs.Walks.{is_plain}
-use Rattle.ticket_log.proofs.Seeing.{plain_none, plain_more}
 use Rattle.ticket_log.proofs.all_plain.Given as goal
 
 abbrev pub invariant-loop-i : goal.invariant-loop-i

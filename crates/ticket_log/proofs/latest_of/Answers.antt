@@ -1,6 +1,5 @@
 -- The latest ticket of the page, or the one before it.
 use Prim.Native.Nat.{ℕ, ◌≤◌}
-use native.Mathlib.Omega.{arith}
 use mathlib.Core.Path.{◌≡◌, refl, ap, ap₂, ◌∙◌}
 use lib.Dec.{lit≤}
 use Rattle.rules.specs.declared.Origin.{Origin}

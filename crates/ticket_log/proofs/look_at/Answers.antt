@@ -1,11 +1,10 @@
-use Prim.Native.Nat.{◌-◌, ◌≤◌}
 use native.Mathlib.Omega.{arith}
 use mathlib.Core.Path.{refl, sym, ap, ◌∙◌}
 use borrow.Author.Tests.{not-true, not-false}
 use Rattle.ranges.proofs.Looks.{all_at}
 use Rattle.rules.specs.declared.Ticket.{Ticket}
 use Rattle.rules.specs.Tickets.{is_empty, ticket_sound}
-use Rattle.ticket_log.specs.Walks.{Seen, tickets_in}
+use Rattle.ticket_log.specs.Walks.{tickets_in}
 use Rattle.ticket_log.proofs.Seeing.{seen_none, seen_more, seen_plain}
 use Rattle.ticket_log.proofs.look_at.Goals as goal
 

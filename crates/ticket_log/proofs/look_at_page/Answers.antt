@@ -51,14 +51,14 @@ returns c =
     let given : Images = images c.args.chips.now c.args.records.now c.args.slots.now in
     let inside : Within layout = within layout c.requires.0.limited in
     let page-is : contents layout given c.args.lost c.args.at.page ≡ c.lent-page.result.now =
-        let a = c.args in
-        let l = layout in
-        by_test c.is_direct-direct.result
-        (λ e.
-        sym (ap (λ (x : Fetched). x.bytes)
-        (direct_is l given a.lost a.at.stripe a.at.member (sym c.is_direct-direct.ensures ∙ e) ∙ at_fetch l inside c.requires.5 given a.lost))
-        ∙ sym (c.lent-page.ensures.0 ∙ rw e))
-        (λ e. sym (c.fetch_apart-got.ensures.3 e) ∙ sym (c.lent-page.ensures.0 ∙ rw e)) in
+    let a = c.args in
+    let l = layout in
+    by_test c.is_direct-direct.result
+    (λ e.
+    sym (ap (λ (x : Fetched). x.bytes)
+    (direct_is l given a.lost a.at.stripe a.at.member (sym c.is_direct-direct.ensures ∙ e) ∙ at_fetch l inside c.requires.5 given a.lost))
+    ∙ sym (c.lent-page.ensures.0 ∙ rw e))
+    (λ e. sym (c.fetch_apart-got.ensures.3 e) ∙ sym (c.lent-page.ensures.0 ∙ rw e)) in
     let is = page-is in
     record {
       long = ap (λ (xs : List ℕ). length xs) is ∙ c.lent-page.ensures.1;

@@ -1,4 +1,4 @@
-use Prim.Native.Nat.{ℕ, ◌-◌, ◌*◌, ◌/◌, ◌≤◌, ◌<◌}
+use Prim.Native.Nat.{ℕ, ◌*◌, ◌/◌, ◌≤◌, ◌<◌}
 use native.Mathlib.Nat.{mul-le-mul}
 use native.Mathlib.Omega.{arith}
 use mathlib.Core.Path.{◌≡◌, refl, sym, ap, ◌∙◌}
@@ -12,7 +12,7 @@ use Rattle.rules.specs.Tickets.{ticket_bytes}
 use Rattle.rules.specs.Log.{per_page}
 use Rattle.ticket_log.specs.declared.Position.{Position}
 use Rattle.ticket_log.specs.Walks.{position_of}
-use Rattle.ticket_log.proofs.Walking.{Going, Next, going, next, goes_on, walk_ended, walk_broken, walk_full, pages_few}
+use Rattle.ticket_log.proofs.Walking.{Next, going, next, goes_on, walk_ended, walk_broken, walk_full, pages_few}
 use borrow.Author.Rules.{rules}
 use Rattle.ticket_log.proofs.walk_log.Goals as goal
 
@@ -47,7 +47,7 @@ overflow_add-reads c =
     let given : Images = images c.args.chips.now c.args.records.now c.args.slots.now in
     let looked : let o = c.loop-at in
     Next layout given c.args.lost c.args.lot c.args.bag o.greatest o.reads o.at.page c.look_at_page-seen.result =
-        next layout given c.args.lost c.args.lot c.args.bag c.loop-at.invariant.2 c.loop-at-test.true c.look_at_page-seen.ensures in
+    next layout given c.args.lost c.args.lot c.args.bag c.loop-at.invariant.2 c.loop-at-test.true c.look_at_page-seen.ensures in
     search (rules, few-pages, looked.few, looked.inside)
 
 pub shape_of-work-then-not-shown : goal.shape_of-work-then-not-shown
@@ -60,7 +60,7 @@ returns-then-not-shown c =
     let inside : Within layout = within layout c.requires.0.limited in
     let looked : let o = c.loop-at in
     Next layout given c.args.lost c.args.lot c.args.bag o.greatest o.reads o.at.page c.look_at_page-seen.result =
-        next layout given c.args.lost c.args.lot c.args.bag c.loop-at.invariant.2 c.loop-at-test.true c.look_at_page-seen.ensures in
+    next layout given c.args.lost c.args.lot c.args.bag c.loop-at.invariant.2 c.loop-at-test.true c.look_at_page-seen.ensures in
     walk_broken layout given c.args.lost c.args.lot c.args.bag inside looked c.broken.ensures (not-true _ c.if-not-shown.true)
 
 pub overflow_mul-end : goal.overflow_mul-end
@@ -69,13 +69,13 @@ overflow_mul-end c =
     let inside : Within layout = within layout c.requires.0.limited in
     let few-pages : c.args.g.n * c.args.g.s ≤ 393210 = pages_few layout inside in
     let few-places : (i : ℕ) → i < c.args.g.n * c.args.g.s → i * (length c.args.work.now / ticket_bytes) ≤ 100661760 = λ i h.
-        let low : i ≤ 393210 = omega (arith, h, few-pages) in
-        let per : length c.args.work.now / ticket_bytes ≤ 256 = rw c.requires.3 (omega (arith, inside.bytes_high)) in
-        mul-le-mul low per in
+    let low : i ≤ 393210 = omega (arith, h, few-pages) in
+    let per : length c.args.work.now / ticket_bytes ≤ 256 = rw c.requires.3 (omega (arith, inside.bytes_high)) in
+    mul-le-mul low per in
     let given : Images = images c.args.chips.now c.args.records.now c.args.slots.now in
     let looked : let o = c.loop-at in
     Next layout given c.args.lost c.args.lot c.args.bag o.greatest o.reads o.at.page c.look_at_page-seen.result =
-        next layout given c.args.lost c.args.lot c.args.bag c.loop-at.invariant.2 c.loop-at-test.true c.look_at_page-seen.ensures in
+    next layout given c.args.lost c.args.lot c.args.bag c.loop-at.invariant.2 c.loop-at-test.true c.look_at_page-seen.ensures in
     search (rules, few-places c.loop-at.at.page looked.inside)
 
 pub overflow_add-end : goal.overflow_add-end
@@ -84,13 +84,13 @@ overflow_add-end c =
     let inside : Within layout = within layout c.requires.0.limited in
     let few-pages : c.args.g.n * c.args.g.s ≤ 393210 = pages_few layout inside in
     let few-places : (i : ℕ) → i < c.args.g.n * c.args.g.s → i * (length c.args.work.now / ticket_bytes) ≤ 100661760 = λ i h.
-        let low : i ≤ 393210 = omega (arith, h, few-pages) in
-        let per : length c.args.work.now / ticket_bytes ≤ 256 = rw c.requires.3 (omega (arith, inside.bytes_high)) in
-        mul-le-mul low per in
+    let low : i ≤ 393210 = omega (arith, h, few-pages) in
+    let per : length c.args.work.now / ticket_bytes ≤ 256 = rw c.requires.3 (omega (arith, inside.bytes_high)) in
+    mul-le-mul low per in
     let given : Images = images c.args.chips.now c.args.records.now c.args.slots.now in
     let looked : let o = c.loop-at in
     Next layout given c.args.lost c.args.lot c.args.bag o.greatest o.reads o.at.page c.look_at_page-seen.result =
-        next layout given c.args.lost c.args.lot c.args.bag c.loop-at.invariant.2 c.loop-at-test.true c.look_at_page-seen.ensures in
+    next layout given c.args.lost c.args.lot c.args.bag c.loop-at.invariant.2 c.loop-at-test.true c.look_at_page-seen.ensures in
     let per-page : length c.args.work.now / ticket_bytes ≡ per_page layout = rw c.requires.3 in
     search (rules, few-places c.loop-at.at.page looked.inside, c.if-shown-per_page.true, per-page, inside.bytes_high)
 
@@ -104,7 +104,7 @@ returns-then-shown-per_page c =
     let inside : Within layout = within layout c.requires.0.limited in
     let looked : let o = c.loop-at in
     Next layout given c.args.lost c.args.lot c.args.bag o.greatest o.reads o.at.page c.look_at_page-seen.result =
-        next layout given c.args.lost c.args.lot c.args.bag c.loop-at.invariant.2 c.loop-at-test.true c.look_at_page-seen.ensures in
+    next layout given c.args.lost c.args.lot c.args.bag c.loop-at.invariant.2 c.loop-at-test.true c.look_at_page-seen.ensures in
     let per-page : length c.args.work.now / ticket_bytes ≡ per_page layout = rw c.requires.3 in
     let told = c.greater-with_page.ensures in
     walk_ended layout given c.args.lost c.args.lot c.args.bag inside looked
@@ -116,7 +116,7 @@ next_page-next-requires c =
     let given : Images = images c.args.chips.now c.args.records.now c.args.slots.now in
     let looked : let o = c.loop-at in
     Next layout given c.args.lost c.args.lot c.args.bag o.greatest o.reads o.at.page c.look_at_page-seen.result =
-        next layout given c.args.lost c.args.lot c.args.bag c.loop-at.invariant.2 c.loop-at-test.true c.look_at_page-seen.ensures in
+    next layout given c.args.lost c.args.lot c.args.bag c.loop-at.invariant.2 c.loop-at-test.true c.look_at_page-seen.ensures in
     (c.requires.0.limited, c.loop-at.invariant.1, looked.inside)
 
 pub loop-at-smaller : goal.loop-at-smaller
@@ -125,7 +125,7 @@ loop-at-smaller c =
     let given : Images = images c.args.chips.now c.args.records.now c.args.slots.now in
     let looked : let o = c.loop-at in
     Next layout given c.args.lost c.args.lot c.args.bag o.greatest o.reads o.at.page c.look_at_page-seen.result =
-        next layout given c.args.lost c.args.lot c.args.bag c.loop-at.invariant.2 c.loop-at-test.true c.look_at_page-seen.ensures in
+    next layout given c.args.lost c.args.lot c.args.bag c.loop-at.invariant.2 c.loop-at-test.true c.look_at_page-seen.ensures in
     omega (arith, ap (λ (p : Position). p.page) c.next_page-next.ensures, looked.inside)
 
 pub loop-at-preserved : goal.loop-at-preserved
@@ -134,7 +134,7 @@ loop-at-preserved c =
     let given : Images = images c.args.chips.now c.args.records.now c.args.slots.now in
     let looked : let o = c.loop-at in
     Next layout given c.args.lost c.args.lot c.args.bag o.greatest o.reads o.at.page c.look_at_page-seen.result =
-        next layout given c.args.lost c.args.lot c.args.bag c.loop-at.invariant.2 c.loop-at-test.true c.look_at_page-seen.ensures in
+    next layout given c.args.lost c.args.lot c.args.bag c.loop-at.invariant.2 c.loop-at-test.true c.look_at_page-seen.ensures in
     let per-page : length c.args.work.now / ticket_bytes ≡ per_page layout = rw c.requires.3 in
     let o = c.loop-at in
     let is = c.next_page-next.ensures in

@@ -1,19 +1,11 @@
 -- The pages before the position neither end the log nor break its rules; the next one was looked at.
-use Prim.Native.Nat.{ℕ, ◌-◌, ◌*◌, ◌/◌, ◌≤◌, ◌<◌}
-use native.Mathlib.Nat.{mul-le-mul}
-use native.Mathlib.Omega.{arith}
-use mathlib.Core.Path.{◌≡◌, refl, sym, ap, ◌∙◌}
-use borrow.Author.Tests.{not-true, not-false}
+use Prim.Native.Nat.{◌-◌}
+use mathlib.Core.Path.{◌≡◌}
 use lib.ListN.{length}
-use Rattle.layout.specs.Layout.{Layout, layout_of}
-use Rattle.layout.specs.Images.{Images}
-use Rattle.layout.proofs.Limits.{Within, within}
+use Rattle.layout.specs.Layout.{layout_of}
 use Rattle.steps.specs.Allowance.{images}
-use Rattle.rules.specs.Tickets.{ticket_bytes}
-use Rattle.rules.specs.Log.{per_page}
-use Rattle.ticket_log.specs.declared.Position.{Position}
 use Rattle.ticket_log.specs.Walks.{position_of}
-use Rattle.ticket_log.proofs.Walking.{Going, Next, going, next, goes_on, walk_ended, walk_broken, walk_full, pages_few}
+use Rattle.ticket_log.proofs.Walking.{Going}
 use Rattle.ticket_log.proofs.walk_log.Given as goal
 
 abbrev pub invariant-loop-at : goal.invariant-loop-at
