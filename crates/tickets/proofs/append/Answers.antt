@@ -63,8 +63,8 @@ put_ticket-requires c =
     let inside : Within layout = within layout c.requires.0.checked.chips_fit.limited in
     let some : 0 < per_page layout = omega (arith, inside.bytes_low) in
     let place_fits : (xs : List ℕ) → length xs ≡ c.args.g.w → c.args.t % per_page layout * ticket_bytes + ticket_bytes ≤ length xs = λ xs long.
-        let whole : length xs ≡ per_page layout * 16 = long ∙ omega (arith, inside.bytes_unit) in
-        unit_fits (per_page layout) 16 (c.args.t % per_page layout) xs whole (mod-lt c.args.t some) in
+    let whole : length xs ≡ per_page layout * 16 = long ∙ omega (arith, inside.bytes_unit) in
+    unit_fits (per_page layout) 16 (c.args.t % per_page layout) xs whole (mod-lt c.args.t some) in
     (place_fits c.fetch_member-got.new.buffer (c.fetch_member-got.auto.buffer ∙ c.requires.2), c.requires.4)
 
 pub slice_bounds-work-end : goal.slice_bounds-work-end
@@ -79,8 +79,7 @@ write_member-requires c =
     let inside : Within layout = within layout c.requires.0.checked.chips_fit.limited in
     let page : ℕ = falls_in layout c.args.t in
     let some : 0 < per_page layout = omega (arith, inside.bytes_low) in
-    let page_fits : page < c.args.g.n * c.args.g.s = (div-lt_iff_lt-mul some).1 c.requires.3 in
-    (
+    let page_fits : page < c.args.g.n * c.args.g.s = (div-lt_iff_lt-mul some).1 c.requires.3 in (
       c.requires.0,
       c.requires.1,
       front_long c.args.g.w 4096 inside.bytes_high,
@@ -99,6 +98,6 @@ returns c =
     let given : Images = images c.args.chips.now c.args.records.now c.args.slots.now in
     let page : ℕ = falls_in layout c.args.t in
     let read : c.fetch_member-got.new.buffer ≡ contents layout given c.args.lost page =
-        ap (λ (x : Fetched). x.bytes) c.fetch_member-got.ensures.0 in
+    ap (λ (x : Fetched). x.bytes) c.fetch_member-got.ensures.0 in
     let put = c.put_ticket.ensures ∙ ap (unit_put ticket_bytes (c.args.t % per_page layout) c.args.ticket.now) read in
     rw (sym put) c.write_member.ensures

@@ -18,14 +18,14 @@ slot_at-t-requires c =
     let known : let l = layout_of c.args.g in
     let r = record_at l c.args.records.now in
     (c.args.seen.cheapest ≡ cheapest l r) × (c.args.seen.free ≡ lowest_free_slot l r) =
-        (ap (λ (x : SlotScan). x.cheapest) c.requires.6, ap (λ (x : SlotScan). x.free) c.requires.6) in
+    (ap (λ (x : SlotScan). x.cheapest) c.requires.6, ap (λ (x : SlotScan). x.free) c.requires.6) in
     let found : let l = layout_of c.args.g in
     cheapest l (record_at l c.args.records.now) ≡ At c.in-At.k =
-        sym known.0 ∙ c.in-At.is in
+    sym known.0 ∙ c.in-At.is in
     let has : let l = layout_of c.args.g in
     let k = c.in-At.k in
     (k < c.args.g.s) × (has_slot (record_at l c.args.records.now k) ≡ true) =
-        let l = layout_of c.args.g in cheapest_slotted l (record_at l c.args.records.now) found in
+    let l = layout_of c.args.g in cheapest_slotted l (record_at l c.args.records.now) found in
     (c.requires.0.checked.records_pass.fit, has.0)
 
 pub commit_stripe-run-requires : goal.commit_stripe-run-requires
@@ -33,14 +33,14 @@ commit_stripe-run-requires c =
     let known : let l = layout_of c.args.g in
     let r = record_at l c.args.records.now in
     (c.args.seen.cheapest ≡ cheapest l r) × (c.args.seen.free ≡ lowest_free_slot l r) =
-        (ap (λ (x : SlotScan). x.cheapest) c.requires.6, ap (λ (x : SlotScan). x.free) c.requires.6) in
+    (ap (λ (x : SlotScan). x.cheapest) c.requires.6, ap (λ (x : SlotScan). x.free) c.requires.6) in
     let found : let l = layout_of c.args.g in
     cheapest l (record_at l c.args.records.now) ≡ At c.in-At.k =
-        sym known.0 ∙ c.in-At.is in
+    sym known.0 ∙ c.in-At.is in
     let has : let l = layout_of c.args.g in
     let k = c.in-At.k in
     (k < c.args.g.s) × (has_slot (record_at l c.args.records.now k) ≡ true) =
-        let l = layout_of c.args.g in cheapest_slotted l (record_at l c.args.records.now) found in
+    let l = layout_of c.args.g in cheapest_slotted l (record_at l c.args.records.now) found in
     let h = c.requires in
     (h.0, h.1, h.2, has.0, h.3, has.1, h.5 _ c.in-At.is)
 
@@ -49,14 +49,14 @@ returns-in-At c =
     let known : let l = layout_of c.args.g in
     let r = record_at l c.args.records.now in
     (c.args.seen.cheapest ≡ cheapest l r) × (c.args.seen.free ≡ lowest_free_slot l r) =
-        (ap (λ (x : SlotScan). x.cheapest) c.requires.6, ap (λ (x : SlotScan). x.free) c.requires.6) in
+    (ap (λ (x : SlotScan). x.cheapest) c.requires.6, ap (λ (x : SlotScan). x.free) c.requires.6) in
     let found : let l = layout_of c.args.g in
     cheapest l (record_at l c.args.records.now) ≡ At c.in-At.k =
-        sym known.0 ∙ c.in-At.is in
+    sym known.0 ∙ c.in-At.is in
     let has : let l = layout_of c.args.g in
     let k = c.in-At.k in
     (k < c.args.g.s) × (has_slot (record_at l c.args.records.now k) ≡ true) =
-        let l = layout_of c.args.g in cheapest_slotted l (record_at l c.args.records.now) found in
+    let l = layout_of c.args.g in cheapest_slotted l (record_at l c.args.records.now) found in
     let a = c.args in
     let l = layout_of a.g in
     let v = images a.chips.now a.records.now a.slots.now in (
@@ -70,7 +70,7 @@ returns-in-Nothing c =
     let known : let l = layout_of c.args.g in
     let r = record_at l c.args.records.now in
     (c.args.seen.cheapest ≡ cheapest l r) × (c.args.seen.free ≡ lowest_free_slot l r) =
-        (ap (λ (x : SlotScan). x.cheapest) c.requires.6, ap (λ (x : SlotScan). x.free) c.requires.6) in
+    (ap (λ (x : SlotScan). x.cheapest) c.requires.6, ap (λ (x : SlotScan). x.free) c.requires.6) in
     let a = c.args in
     let l = layout_of a.g in
     let v = images a.chips.now a.records.now a.slots.now in (

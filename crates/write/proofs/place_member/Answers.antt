@@ -1,6 +1,5 @@
 -- Room on the member's chip, then the place, then what a write stores there.
 use mathlib.Core.Path.{refl, sym, ◌∙◌}
-use mathlib.Core.Logic.{⊎_elim}
 use Rattle.layout.specs.Layout.{layout_of}
 use Rattle.steps.specs.Allowance.{Ran, images}
 use Rattle.rules.specs.Room.{room_steps}
@@ -24,10 +23,10 @@ pub make_room-run-requires : goal.make_room-run-requires
 make_room-run-requires c =
     let victim : let a = c.args in
     VictimFor a.g a.chips.now a.records.now c.member_chip-c.result c.if-anew.victim =
-        elim c.if-anew.branch [
-          | then-anew w ↦ same_victim refl w.victim-is (victim_wanted_lem w.victim_on-victim.ensures)
-          | else-anew w ↦ same_victim c.member_chip-c.ensures.0 w.victim-is (c.requires.7 w.if-anew.false)
-        ] in
+    elim c.if-anew.branch [
+      | then-anew w ↦ same_victim refl w.victim-is (victim_wanted_lem w.victim_on-victim.ensures)
+      | else-anew w ↦ same_victim c.member_chip-c.ensures.0 w.victim-is (c.requires.7 w.if-anew.false)
+    ] in
     let h = c.requires in
     (h.0, c.member_chip-c.ensures.1, victim, h.6, h.1, h.2)
 
@@ -38,7 +37,7 @@ returns-then-run c =
     let s = images a.chips.now a.records.now a.slots.now in
     Ran l a.p (room_steps l c.member_chip-c.result s) c.make_room-run.result s
     (images c.make_room-run.new.chips c.make_room-run.new.records a.slots.now) =
-        c.make_room-run.ensures in
+    c.make_room-run.ensures in
     let a = c.args in
     let on = c.member_chip-c.ensures in
     let fill = write_at (layout_of a.g) a.j a.m a.bytes.now in
@@ -51,7 +50,7 @@ place_on-requires c =
     let s = images a.chips.now a.records.now a.slots.now in
     Ran l a.p (room_steps l c.member_chip-c.result s) c.make_room-run.result s
     (images c.make_room-run.new.chips c.make_room-run.new.records a.slots.now) =
-        c.make_room-run.ensures in
+    c.make_room-run.ensures in
     let h = c.requires in
     let low = c.member_chip-c.ensures.1 in
     ordered (room_settled h.0 h.1 low made c.if-run.false).checked low
@@ -63,7 +62,7 @@ write_at-requires c =
     let s = images a.chips.now a.records.now a.slots.now in
     Ran l a.p (room_steps l c.member_chip-c.result s) c.make_room-run.result s
     (images c.make_room-run.new.chips c.make_room-run.new.records a.slots.now) =
-        c.make_room-run.ensures in
+    c.make_room-run.ensures in
     let h = c.requires in
     let low = c.member_chip-c.ensures.1 in
     let going = c.if-run.false in
@@ -88,7 +87,7 @@ returns-in-At c =
     let s = images a.chips.now a.records.now a.slots.now in
     Ran l a.p (room_steps l c.member_chip-c.result s) c.make_room-run.result s
     (images c.make_room-run.new.chips c.make_room-run.new.records a.slots.now) =
-        c.make_room-run.ensures in
+    c.make_room-run.ensures in
     let a = c.args in
     let on = c.member_chip-c.ensures in
     let fill = write_at (layout_of a.g) a.j a.m a.bytes.now in
@@ -102,7 +101,7 @@ returns-in-Nothing c =
     let s = images a.chips.now a.records.now a.slots.now in
     Ran l a.p (room_steps l c.member_chip-c.result s) c.make_room-run.result s
     (images c.make_room-run.new.chips c.make_room-run.new.records a.slots.now) =
-        c.make_room-run.ensures in
+    c.make_room-run.ensures in
     let a = c.args in
     let on = c.member_chip-c.ensures in
     let fill = write_at (layout_of a.g) a.j a.m a.bytes.now in
