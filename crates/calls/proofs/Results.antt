@@ -41,7 +41,7 @@ use Rattle.rules.specs.Calls.{Outcome, ReadOutcome, read_into, format_call, open
 use Rattle.rules.proofs.Soundness.Table.{rows_passed, below_passed, below_failed, both_passed}
 use Rattle.rules.proofs.Soundness.Accepted.{write_accepted}
 use Rattle.rules.specs.Capacitor.{write_needs, open_needs, StoresNeeded}
-use Rattle.rules.proofs.Lists.Lengths.{format_length, open_length}
+use Rattle.rules.proofs.Lists.Needed.{format_length, open_length}
 use Rattle.rules.proofs.Capacitor.{stores_needed}
 use Rattle.rules.proofs.Lists.EachCall.{open_lost}
 use Rattle.rules.proofs.Lists.Answers.{answer_of, call-refused, call-ran}
