@@ -24,9 +24,9 @@ seven c =
     let lent : Images = images c.args.chips.now c.args.records.now c.args.slots.now in
     let told : let a = c.args in
     c.free_check-check.result ≡ checked (settled_rows (layout_of a.g) lent a.lost ++ free_rows (leb a.chip a.g.n) a.lost) =
-        free_told _ _ _ _ c.settled_look-look.ensures c.free_check-check.ensures in
+    free_told _ _ _ _ c.settled_look-look.ensures c.free_check-check.ensures in
     let passed : FreeReady c.args.g lent c.args.lost (leb c.args.chip c.args.g.n) c.settled_look-look.result =
-        free_ready _ _ _ _ c.settled_look-look.ensures told c.in_default.is in
+    free_ready _ _ _ _ c.settled_look-look.ensures told c.in_default.is in
     let low : let a = c.args in a.chip ≤ a.g.n = leb-true _ _ passed.fit in
     omega (arith, passed.ready.store.within_limits.members_high, low)
 
@@ -35,7 +35,7 @@ returns-in-Failed c =
     let lent : Images = images c.args.chips.now c.args.records.now c.args.slots.now in
     let told : let a = c.args in
     c.free_check-check.result ≡ checked (settled_rows (layout_of a.g) lent a.lost ++ free_rows (leb a.chip a.g.n) a.lost) =
-        free_told _ _ _ _ c.settled_look-look.ensures c.free_check-check.ensures in
+    free_told _ _ _ _ c.settled_look-look.ensures c.free_check-check.ensures in
     collect_refused _ _ _ _ _ c.in-Failed.r (sym told ∙ c.in-Failed.is)
 
 pub offset_bounds-look-c : goal.offset_bounds-look-c
@@ -49,9 +49,9 @@ slice_bounds-work-end c =
     let lent : Images = images c.args.chips.now c.args.records.now c.args.slots.now in
     let told : let a = c.args in
     c.free_check-check.result ≡ checked (settled_rows (layout_of a.g) lent a.lost ++ free_rows (leb a.chip a.g.n) a.lost) =
-        free_told _ _ _ _ c.settled_look-look.ensures c.free_check-check.ensures in
+    free_told _ _ _ _ c.settled_look-look.ensures c.free_check-check.ensures in
     let passed : FreeReady c.args.g lent c.args.lost (leb c.args.chip c.args.g.n) c.settled_look-look.result =
-        free_ready _ _ _ _ c.settled_look-look.ensures told c.in_default.is in
+    free_ready _ _ _ _ c.settled_look-look.ensures told c.in_default.is in
     passed.ready.store.within_limits.bytes_high
 
 pub collect_chip-requires : goal.collect_chip-requires
@@ -59,18 +59,18 @@ collect_chip-requires c =
     let lent : Images = images c.args.chips.now c.args.records.now c.args.slots.now in
     let told : let a = c.args in
     c.free_check-check.result ≡ checked (settled_rows (layout_of a.g) lent a.lost ++ free_rows (leb a.chip a.g.n) a.lost) =
-        free_told _ _ _ _ c.settled_look-look.ensures c.free_check-check.ensures in
+    free_told _ _ _ _ c.settled_look-look.ensures c.free_check-check.ensures in
     let passed : FreeReady c.args.g lent c.args.lost (leb c.args.chip c.args.g.n) c.settled_look-look.result =
-        free_ready _ _ _ _ c.settled_look-look.ensures told c.in_default.is in
+    free_ready _ _ _ _ c.settled_look-look.ensures told c.in_default.is in
     let low : let a = c.args in a.chip ≤ a.g.n = leb-true _ _ passed.fit in
     let known : let a = c.args in
     let l = layout_of a.g in
     c.victim_in.result ≡ victim_of l a.chip (page_at l a.chips.now a.chip) (record_at l a.records.now) =
-        c.victim_in.ensures ∙ passed.ready.known.at _ low in
+    c.victim_in.ensures ∙ passed.ready.known.at _ low in
     let victim : let a = c.args in
     let l = layout_of a.g in
     victim_of l a.chip (page_at l a.chips.now a.chip) (record_at l a.records.now) ≡ At c.in-At.v =
-        sym known ∙ c.in-At.is in
+    sym known ∙ c.in-At.is in
     let store = passed.ready.store in
     let a = c.args in
     let l = layout_of a.g in
@@ -82,18 +82,18 @@ returns-in-At c =
     let lent : Images = images c.args.chips.now c.args.records.now c.args.slots.now in
     let told : let a = c.args in
     c.free_check-check.result ≡ checked (settled_rows (layout_of a.g) lent a.lost ++ free_rows (leb a.chip a.g.n) a.lost) =
-        free_told _ _ _ _ c.settled_look-look.ensures c.free_check-check.ensures in
+    free_told _ _ _ _ c.settled_look-look.ensures c.free_check-check.ensures in
     let passed : FreeReady c.args.g lent c.args.lost (leb c.args.chip c.args.g.n) c.settled_look-look.result =
-        free_ready _ _ _ _ c.settled_look-look.ensures told c.in_default.is in
+    free_ready _ _ _ _ c.settled_look-look.ensures told c.in_default.is in
     let low : let a = c.args in a.chip ≤ a.g.n = leb-true _ _ passed.fit in
     let known : let a = c.args in
     let l = layout_of a.g in
     c.victim_in.result ≡ victim_of l a.chip (page_at l a.chips.now a.chip) (record_at l a.records.now) =
-        c.victim_in.ensures ∙ passed.ready.known.at _ low in
+    c.victim_in.ensures ∙ passed.ready.known.at _ low in
     let victim : let a = c.args in
     let l = layout_of a.g in
     victim_of l a.chip (page_at l a.chips.now a.chip) (record_at l a.records.now) ≡ At c.in-At.v =
-        sym known ∙ c.in-At.is in
+    sym known ∙ c.in-At.is in
     rw c.answer.ensures
     (collect_ran _ _ _ _ _ passed _ victim c.start-p.ensures.0 c.collect_chip.ensures)
 
@@ -102,12 +102,12 @@ returns-in-Nothing c =
     let lent : Images = images c.args.chips.now c.args.records.now c.args.slots.now in
     let told : let a = c.args in
     c.free_check-check.result ≡ checked (settled_rows (layout_of a.g) lent a.lost ++ free_rows (leb a.chip a.g.n) a.lost) =
-        free_told _ _ _ _ c.settled_look-look.ensures c.free_check-check.ensures in
+    free_told _ _ _ _ c.settled_look-look.ensures c.free_check-check.ensures in
     let passed : FreeReady c.args.g lent c.args.lost (leb c.args.chip c.args.g.n) c.settled_look-look.result =
-        free_ready _ _ _ _ c.settled_look-look.ensures told c.in_default.is in
+    free_ready _ _ _ _ c.settled_look-look.ensures told c.in_default.is in
     let low : let a = c.args in a.chip ≤ a.g.n = leb-true _ _ passed.fit in
     let known : let a = c.args in
     let l = layout_of a.g in
     c.victim_in.result ≡ victim_of l a.chip (page_at l a.chips.now a.chip) (record_at l a.records.now) =
-        c.victim_in.ensures ∙ passed.ready.known.at _ low in
+    c.victim_in.ensures ∙ passed.ready.known.at _ low in
     collect_nothing _ _ _ _ _ passed (sym known ∙ c.in-Nothing.is)

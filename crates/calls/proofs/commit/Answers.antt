@@ -22,9 +22,9 @@ low c =
     let lent : Images = images c.args.chips.now c.args.records.now c.args.slots.now in
     let told : let a = c.args in
     c.free_check-check.result ≡ checked (settled_rows (layout_of a.g) lent a.lost ++ free_rows (ltb a.stripe a.g.s) a.lost) =
-        free_told _ _ _ _ c.settled_look-look.ensures c.free_check-check.ensures in
+    free_told _ _ _ _ c.settled_look-look.ensures c.free_check-check.ensures in
     let passed : FreeReady c.args.g lent c.args.lost (ltb c.args.stripe c.args.g.s) c.settled_look-look.result =
-        free_ready _ _ _ _ c.settled_look-look.ensures told c.in_default.is in
+    free_ready _ _ _ _ c.settled_look-look.ensures told c.in_default.is in
     seven passed.ready.store.settled c.parity_chip.ensures.1
 
 pub returns-in-Failed : goal.returns-in-Failed
@@ -32,7 +32,7 @@ returns-in-Failed c =
     let lent : Images = images c.args.chips.now c.args.records.now c.args.slots.now in
     let told : let a = c.args in
     c.free_check-check.result ≡ checked (settled_rows (layout_of a.g) lent a.lost ++ free_rows (ltb a.stripe a.g.s) a.lost) =
-        free_told _ _ _ _ c.settled_look-look.ensures c.free_check-check.ensures in
+    free_told _ _ _ _ c.settled_look-look.ensures c.free_check-check.ensures in
     commit_refused _ _ _ _ _ c.in-Failed.r (sym told ∙ c.in-Failed.is)
 
 pub slot_at-requires : goal.slot_at-requires
@@ -40,9 +40,9 @@ slot_at-requires c =
     let lent : Images = images c.args.chips.now c.args.records.now c.args.slots.now in
     let told : let a = c.args in
     c.free_check-check.result ≡ checked (settled_rows (layout_of a.g) lent a.lost ++ free_rows (ltb a.stripe a.g.s) a.lost) =
-        free_told _ _ _ _ c.settled_look-look.ensures c.free_check-check.ensures in
+    free_told _ _ _ _ c.settled_look-look.ensures c.free_check-check.ensures in
     let passed : FreeReady c.args.g lent c.args.lost (ltb c.args.stripe c.args.g.s) c.settled_look-look.result =
-        free_ready _ _ _ _ c.settled_look-look.ensures told c.in_default.is in
+    free_ready _ _ _ _ c.settled_look-look.ensures told c.in_default.is in
     let h = passed in (h.ready.store.settled.checked.records_pass.fit, ltb-true _ _ h.fit)
 
 pub returns-then-slot_at-eq-NO_SLOT : goal.returns-then-slot_at-eq-NO_SLOT
@@ -50,9 +50,9 @@ returns-then-slot_at-eq-NO_SLOT c =
     let lent : Images = images c.args.chips.now c.args.records.now c.args.slots.now in
     let told : let a = c.args in
     c.free_check-check.result ≡ checked (settled_rows (layout_of a.g) lent a.lost ++ free_rows (ltb a.stripe a.g.s) a.lost) =
-        free_told _ _ _ _ c.settled_look-look.ensures c.free_check-check.ensures in
+    free_told _ _ _ _ c.settled_look-look.ensures c.free_check-check.ensures in
     let passed : FreeReady c.args.g lent c.args.lost (ltb c.args.stripe c.args.g.s) c.settled_look-look.result =
-        free_ready _ _ _ _ c.settled_look-look.ensures told c.in_default.is in
+    free_ready _ _ _ _ c.settled_look-look.ensures told c.in_default.is in
     commit_slotless _ _ _ _ _ passed (ap not (eq-eqb _ _ (sym c.slot_at.ensures.0 ∙ c.if-slot_at-eq-NO_SLOT.true)))
 
 pub parity_chip-requires : goal.parity_chip-requires
@@ -60,9 +60,9 @@ parity_chip-requires c =
     let lent : Images = images c.args.chips.now c.args.records.now c.args.slots.now in
     let told : let a = c.args in
     c.free_check-check.result ≡ checked (settled_rows (layout_of a.g) lent a.lost ++ free_rows (ltb a.stripe a.g.s) a.lost) =
-        free_told _ _ _ _ c.settled_look-look.ensures c.free_check-check.ensures in
+    free_told _ _ _ _ c.settled_look-look.ensures c.free_check-check.ensures in
     let passed : FreeReady c.args.g lent c.args.lost (ltb c.args.stripe c.args.g.s) c.settled_look-look.result =
-        free_ready _ _ _ _ c.settled_look-look.ensures told c.in_default.is in
+    free_ready _ _ _ _ c.settled_look-look.ensures told c.in_default.is in
     passed.ready.store.slots_fit.limited
 
 pub offset_bounds-look-parity_chip : goal.offset_bounds-look-parity_chip
@@ -76,9 +76,9 @@ slice_bounds-work-end c =
     let lent : Images = images c.args.chips.now c.args.records.now c.args.slots.now in
     let told : let a = c.args in
     c.free_check-check.result ≡ checked (settled_rows (layout_of a.g) lent a.lost ++ free_rows (ltb a.stripe a.g.s) a.lost) =
-        free_told _ _ _ _ c.settled_look-look.ensures c.free_check-check.ensures in
+    free_told _ _ _ _ c.settled_look-look.ensures c.free_check-check.ensures in
     let passed : FreeReady c.args.g lent c.args.lost (ltb c.args.stripe c.args.g.s) c.settled_look-look.result =
-        free_ready _ _ _ _ c.settled_look-look.ensures told c.in_default.is in
+    free_ready _ _ _ _ c.settled_look-look.ensures told c.in_default.is in
     passed.ready.store.within_limits.bytes_high
 
 pub commit_stripe-requires : goal.commit_stripe-requires
@@ -86,12 +86,12 @@ commit_stripe-requires c =
     let lent : Images = images c.args.chips.now c.args.records.now c.args.slots.now in
     let told : let a = c.args in
     c.free_check-check.result ≡ checked (settled_rows (layout_of a.g) lent a.lost ++ free_rows (ltb a.stripe a.g.s) a.lost) =
-        free_told _ _ _ _ c.settled_look-look.ensures c.free_check-check.ensures in
+    free_told _ _ _ _ c.settled_look-look.ensures c.free_check-check.ensures in
     let passed : FreeReady c.args.g lent c.args.lost (ltb c.args.stripe c.args.g.s) c.settled_look-look.result =
-        free_ready _ _ _ _ c.settled_look-look.ensures told c.in_default.is in
+    free_ready _ _ _ _ c.settled_look-look.ensures told c.in_default.is in
     let has : let a = c.args in
     has_slot (record_at (layout_of a.g) a.records.now a.stripe) ≡ true =
-        ap not (ne_eqb _ _ (λ e. c.if-slot_at-eq-NO_SLOT.false (c.slot_at.ensures.0 ∙ e))) in
+    ap not (ne_eqb _ _ (λ e. c.if-slot_at-eq-NO_SLOT.false (c.slot_at.ensures.0 ∙ e))) in
     let h = passed in
     let on = c.parity_chip.ensures in
     let store = h.ready.store in
@@ -102,11 +102,11 @@ returns c =
     let lent : Images = images c.args.chips.now c.args.records.now c.args.slots.now in
     let told : let a = c.args in
     c.free_check-check.result ≡ checked (settled_rows (layout_of a.g) lent a.lost ++ free_rows (ltb a.stripe a.g.s) a.lost) =
-        free_told _ _ _ _ c.settled_look-look.ensures c.free_check-check.ensures in
+    free_told _ _ _ _ c.settled_look-look.ensures c.free_check-check.ensures in
     let passed : FreeReady c.args.g lent c.args.lost (ltb c.args.stripe c.args.g.s) c.settled_look-look.result =
-        free_ready _ _ _ _ c.settled_look-look.ensures told c.in_default.is in
+    free_ready _ _ _ _ c.settled_look-look.ensures told c.in_default.is in
     let has : let a = c.args in
     has_slot (record_at (layout_of a.g) a.records.now a.stripe) ≡ true =
-        ap not (ne_eqb _ _ (λ e. c.if-slot_at-eq-NO_SLOT.false (c.slot_at.ensures.0 ∙ e))) in
+    ap not (ne_eqb _ _ (λ e. c.if-slot_at-eq-NO_SLOT.false (c.slot_at.ensures.0 ∙ e))) in
     rw c.answer.ensures
     (commit_ran _ _ _ _ _ passed has c.start-run.ensures.0 c.commit_stripe.ensures)

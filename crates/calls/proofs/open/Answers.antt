@@ -14,19 +14,19 @@ returns-in-Failed c = open_refused _ (images c.args.chips.now c.args.records.now
 pub returns-then-lost : goal.returns-then-lost
 returns-then-lost c =
     let passed : let a = c.args in checked (images_rows (layout_of a.g) (images a.chips.now a.records.now a.slots.now) a.lost) ≡ Passed =
-        sym (look_check _ (images c.args.chips.now c.args.records.now c.args.slots.now) _ _ c.images_look-look.ensures) ∙ c.in_default.is in
+    sym (look_check _ (images c.args.chips.now c.args.records.now c.args.slots.now) _ _ c.images_look-look.ensures) ∙ c.in_default.is in
     rw c.answer.ensures (open_nothing _ (images c.args.chips.now c.args.records.now c.args.slots.now) _ _ passed c.if-lost.true c.start.ensures.0 c.start.ensures.1)
 
 pub finish-requires : goal.finish-requires
 finish-requires c =
     let passed : let a = c.args in checked (images_rows (layout_of a.g) (images a.chips.now a.records.now a.slots.now) a.lost) ≡ Passed =
-        sym (look_check _ (images c.args.chips.now c.args.records.now c.args.slots.now) _ _ c.images_look-look.ensures) ∙ c.in_default.is in
+    sym (look_check _ (images c.args.chips.now c.args.records.now c.args.slots.now) _ _ c.images_look-look.ensures) ∙ c.in_default.is in
     (at_no_chip c.if-lost.false (images_checked _ (images c.args.chips.now c.args.records.now c.args.slots.now) _ passed), c.start-2.ensures.1)
 
 pub returns : goal.returns
 returns c =
     let passed : let a = c.args in checked (images_rows (layout_of a.g) (images a.chips.now a.records.now a.slots.now) a.lost) ≡ Passed =
-        sym (look_check _ (images c.args.chips.now c.args.records.now c.args.slots.now) _ _ c.images_look-look.ensures) ∙ c.in_default.is in
+    sym (look_check _ (images c.args.chips.now c.args.records.now c.args.slots.now) _ _ c.images_look-look.ensures) ∙ c.in_default.is in
     let a = c.args in
     let h = images_fit a.g (images c.args.chips.now c.args.records.now c.args.slots.now) _ passed in
     rw c.answer-2.ensures
