@@ -59,7 +59,8 @@ def write(path, text):
 def declared():
     names = set()
     for path in files("crates", ".antt"):
-        if os.path.basename(path) in GENERATED:
+        # the proofs of a function stand in a folder of its name; files of lemmas may have the same names
+        if os.path.basename(path) in GENERATED and os.path.basename(os.path.dirname(path))[0].islower():
             continue
         text = re.sub(r"--.*", "", read(path))
         names.update(DECLARED.findall(text))
@@ -72,7 +73,9 @@ def declared():
 
 
 def snake(name):
-    return re.sub(r"([a-z0-9])([A-Z])", lambda m: m[1] + "_" + m[2].lower(), name.replace("-", "_"))
+    # port.py turns getD itself
+    name = re.sub(r"^getD\b", "get_or", name).replace("-", "_")
+    return re.sub(r"([a-z0-9])([A-Z])", lambda m: m[1] + "_" + m[2].lower(), name)
 
 
 def table():

@@ -44,7 +44,7 @@ use Rattle.rules.specs.Capacitor.{write_needs, open_needs, StoresNeeded}
 use Rattle.rules.proofs.Lists.Needed.{format_length, open_length}
 use Rattle.rules.proofs.Capacitor.{stores_needed}
 use Rattle.rules.proofs.Lists.EachCall.{open_lost}
-use Rattle.rules.proofs.Lists.Answers.{answer_of, call-refused, call-ran}
+use Rattle.rules.proofs.Lists.Answers.{answer_of, call_refused, call_ran}
 use Rattle.looks.specs.declared.Look.{Look}
 use Rattle.looks.specs.Looks.{below, look_of}
 use Rattle.looks.proofs.Passing.{rows_below, rows_told, PageReady, page_ready, Ready, ready}
@@ -60,25 +60,25 @@ format_short l w =
 module _ (l : Layout) (s : Images) (a : ℕ) where
   pub format_refused : (r : Refusal) → checked (buffers_rows l s) ≡ Failed r → ◌≡◌ {A = Outcome} (record { answer = Refused r; images = s }) (format_call l s a)
   unfolding format_call
-  format_refused r e = call-refused l no_counts s a (λ t. format_steps l) (buffers_rows l s) r e
+  format_refused r e = call_refused l no_counts s a (λ t. format_steps l) (buffers_rows l s) r e
 
   pub format_ran : {p q : Progress} {t : Images} → Within l → checked (buffers_rows l s) ≡ Passed → p ≡ started no_counts (min a (2 ^ 59))
       → Ran l p (format_steps l) q s t → ◌≡◌ {A = Outcome} (record { answer = answer_of q; images = t }) (format_call l s a)
   unfolding format_call
-  format_ran w e begun h = call-ran l no_counts s a (λ t. format_steps l) (buffers_rows l s) (format_steps l) e refl (format_short l w) begun h
+  format_ran w e begun h = call_ran l no_counts s a (λ t. format_steps l) (buffers_rows l s) (format_steps l) e refl (format_short l w) begun h
 
 -- ---- open
 
 module _ (l : Layout) (s : Images) (lost a : ℕ) where
   pub open_refused : (r : Refusal) → checked (images_rows l s lost) ≡ Failed r → ◌≡◌ {A = Outcome} (record { answer = Refused r; images = s }) (open_call l s lost a)
   unfolding open_call
-  open_refused r e = call-refused l no_counts s a (open_steps l lost) (images_rows l s lost) r e
+  open_refused r e = call_refused l no_counts s a (open_steps l lost) (images_rows l s lost) r e
 
   -- with a chip lost there is no store
   pub open_nothing : {p : Progress} → checked (images_rows l s lost) ≡ Passed → lost ≢ no_chip → p ≡ started no_counts (min a (2 ^ 59)) → Sane p
       → ◌≡◌ {A = Outcome} (record { answer = answer_of p; images = s }) (open_call l s lost a)
   unfolding open_call
-  open_nothing {p} e d begun sane = call-ran l no_counts s a (open_steps l lost) (images_rows l s lost) [] e (open_lost l s lost d) (omega arith) begun (ran_none l p s sane)
+  open_nothing {p} e d begun sane = call_ran l no_counts s a (open_steps l lost) (images_rows l s lost) [] e (open_lost l s lost d) (omega arith) begun (ran_none l p s sane)
 
   -- else it is the end of the collection
   pub open_finished : {p q : Progress} {t : Images} → Within l → checked (images_rows l s lost) ≡ Passed → lost ≡ no_chip → p ≡ started no_counts (min a (2 ^ 59))
@@ -87,7 +87,7 @@ module _ (l : Layout) (s : Images) (lost a : ℕ) where
   open_finished w e none_lost begun h =
       let named = eq-eqb lost no_chip none_lost in
       let most : length (finish_steps l s) ≤ open_needs l = rw named at (open_length l lost s) in
-      call-ran l no_counts s a (open_steps l lost) (images_rows l s lost) (finish_steps l s) e (rw named) (omega (arith, most, places_most l w)) begun h
+      call_ran l no_counts s a (open_steps l lost) (images_rows l s lost) (finish_steps l s) e (rw named) (omega (arith, most, places_most l w)) begun h
 
 -- a read that passes its rows
 pub record ReadReady (g : Geometry) (s : Images) (page : ℕ) (buffer : List ℕ) : Type 0 where
@@ -181,13 +181,13 @@ module _ (g : Geometry) (s : Images) (lost : ℕ) where
     pub write_refused : (a : ℕ) (r : Refusal) → checked (write_rows l s lost page xs) ≡ Failed r
         → ◌≡◌ {A = Outcome} (record { answer = Refused r; images = s }) (write_call l s lost page xs a)
     unfolding write_call
-    write_refused a r e = call-refused l no_counts s a (write_steps l page xs) (write_rows l s lost page xs) r e
+    write_refused a r e = call_refused l no_counts s a (write_steps l page xs) (write_rows l s lost page xs) r e
 
     pub write_ran : (a : ℕ) {look : Look} {p q : Progress} {t : Images} → WriteReady g s lost page xs look → p ≡ started no_counts (min a (2 ^ 59))
         → Ran l p (write_member l (page / g.n) (page % g.n) xs s) q s t → ◌≡◌ {A = Outcome} (record { answer = answer_of q; images = t }) (write_call l s lost page xs a)
     unfolding write_call write_steps
     write_ran a e begun h =
-        call-ran l no_counts s a (write_steps l page xs) (write_rows l s lost page xs) (write_steps l page xs s) e.rows refl
+        call_ran l no_counts s a (write_steps l page xs) (write_rows l s lost page xs) (write_steps l page xs s) e.rows refl
         (short l (length (write_steps l page xs s)) (needed.write s lost page xs e.rows) e.ready.store.within_limits.places_high) begun h
 
   module _ (fits : Bool) where
@@ -208,7 +208,7 @@ module _ (g : Geometry) (s : Images) (lost : ℕ) where
         → ◌≡◌ {A = Outcome} (record { answer = Refused r; images = s }) (commit_call l s lost j a)
     unfolding commit_call commit_rows
     commit_refused r e =
-        call-refused l no_counts s a (commit_steps l j) (commit_rows l s lost j) r
+        call_refused l no_counts s a (commit_steps l j) (commit_rows l s lost j) r
         (below_failed (settled_rows l s lost ++ free_rows (ltb j g.s) lost) ((has_slot (record_at l s.records j), Work) ∷ []) r e)
 
     -- what row 10 comes to
@@ -220,14 +220,14 @@ module _ (g : Geometry) (s : Images) (lost : ℕ) where
     module _ {look : Look} (e : FreeReady g s lost (ltb j g.s) look) where
       pub commit_slotless : has_slot (record_at l s.records j) ≡ false → ◌≡◌ {A = Outcome} (record { answer = Refused Work; images = s }) (commit_call l s lost j a)
       unfolding commit_call
-      commit_slotless f = call-refused l no_counts s a (commit_steps l j) (commit_rows l s lost j) Work (commit_last false e.rows f)
+      commit_slotless f = call_refused l no_counts s a (commit_steps l j) (commit_rows l s lost j) Work (commit_last false e.rows f)
 
       pub commit_ran : {p q : Progress} {t : Images} → has_slot (record_at l s.records j) ≡ true → p ≡ started no_counts (min a (2 ^ 59))
           → Ran l p (commit_steps l j s) q s t → ◌≡◌ {A = Outcome} (record { answer = answer_of q; images = t }) (commit_call l s lost j a)
       unfolding commit_call
       commit_ran f begun h =
           let passed = commit_last true e.rows f in
-          call-ran l no_counts s a (commit_steps l j) (commit_rows l s lost j) (commit_steps l j s) passed refl
+          call_ran l no_counts s a (commit_steps l j) (commit_rows l s lost j) (commit_steps l j s) passed refl
           (short l (length (commit_steps l j s)) (omega (arith, needed.commit s lost j passed)) e.ready.store.within_limits.places_high) begun h
 
   module _ (c a : ℕ) where
@@ -238,7 +238,7 @@ module _ (g : Geometry) (s : Images) (lost : ℕ) where
         → ◌≡◌ {A = Outcome} (record { answer = Refused r; images = s }) (collect_call l s lost c a)
     unfolding collect_call collect_rows
     collect_refused r e =
-        call-refused l no_counts s a (collect_steps l c) (collect_rows l s lost c) r
+        call_refused l no_counts s a (collect_steps l c) (collect_rows l s lost c) r
         (below_failed (settled_rows l s lost ++ free_rows (leb c g.n) lost) ((collectable_on l s c, Work) ∷ []) r e)
 
     -- what row 10 comes to
@@ -250,7 +250,7 @@ module _ (g : Geometry) (s : Images) (lost : ℕ) where
     module _ {look : Look} (e : FreeReady g s lost (leb c g.n) look) where
       pub collect_nothing : victim ≡ Nothing → ◌≡◌ {A = Outcome} (record { answer = Refused Work; images = s }) (collect_call l s lost c a)
       unfolding collect_call when_found
-      collect_nothing f = call-refused l no_counts s a (collect_steps l c) (collect_rows l s lost c) Work (collect_last Nothing e.rows f)
+      collect_nothing f = call_refused l no_counts s a (collect_steps l c) (collect_rows l s lost c) Work (collect_last Nothing e.rows f)
 
       pub collect_ran : {p q : Progress} {t : Images} (v : ℕ) → victim ≡ At v → p ≡ started no_counts (min a (2 ^ 59))
           → Ran l p (collect_block l c v s) q s t → ◌≡◌ {A = Outcome} (record { answer = answer_of q; images = t }) (collect_call l s lost c a)
@@ -258,5 +258,5 @@ module _ (g : Geometry) (s : Images) (lost : ℕ) where
       collect_ran {p} {q} {t} v f begun h =
           let ran : Ran l p (collect_steps l c s) q s t = rw (collect_found l s c f) h in
           let passed = collect_last (At v) e.rows f in
-          call-ran l no_counts s a (collect_steps l c) (collect_rows l s lost c) (collect_steps l c s) passed refl
+          call_ran l no_counts s a (collect_steps l c) (collect_rows l s lost c) (collect_steps l c s) passed refl
           (short l (length (collect_steps l c s)) (omega (arith, needed.collect s lost c passed)) e.ready.store.within_limits.places_high) begun ran

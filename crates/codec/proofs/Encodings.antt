@@ -12,7 +12,7 @@ use Rattle.octets.specs.Number.{number, digits}
 use Rattle.octets.specs.Units.{part, unit}
 use Rattle.ranges.specs.Update.{at}
 use Rattle.ranges.proofs.Looks.{by_same}
-use Rattle.octets.proofs.Units.{part_unit, get_d_unit}
+use Rattle.octets.proofs.Units.{part_unit, get_or_unit}
 use Rattle.ranges.proofs.Updates.{at_unique}
 use Rattle.layout.specs.declared.Geometry.{Geometry}
 use Rattle.layout.specs.Layout.{Layout, layout_of}
@@ -94,8 +94,8 @@ record_in_lem g xs j h =
     let current = six_of_record g j 0 xs (omega arith) in
     let old = six_of_record g j 6 xs (omega arith) in
     let parity = part_unit 32 j 24 2 xs (omega arith) in
-    let bitmap = get_d_unit 32 j 26 0 xs (omega arith) in
-    let slot = get_d_unit 32 j 27 0 xs (omega arith) in
+    let bitmap = get_or_unit 32 j 26 0 xs (omega arith) in
+    let slot = get_or_unit 32 j 27 0 xs (omega arith) in
     rw (lt-ltb j g.s h, ← current, ← old, parity, bitmap, slot, add-zero)
 
 -- so do the four behind them

@@ -18,12 +18,12 @@ use Rattle.codec.specs.Firsts.{first_units}
 
 -- ---- a number, byte by byte
 
-get_d_digits : (k x i : ℕ) → i < k → get_or (digits k x) i 0 ≡ x / 256 ^ i % 256
+get_or_digits : (k x i : ℕ) → i < k → get_or (digits k x) i 0 ≡ x / 256 ^ i % 256
 unfolding digits
-get_d_digits zero x i h = absurd (not-suc-le-zero h)
-get_d_digits (suc k) x zero h = rw div-one
-get_d_digits (suc k) x (suc i) h =
-    rw (get_d_digits k (x / 256) i (le_of_suc-le-suc h), div-div-eq-div-mul x 256 (256 ^ i), pow-succ' 256 i)
+get_or_digits zero x i h = absurd (not-suc-le-zero h)
+get_or_digits (suc k) x zero h = rw div-one
+get_or_digits (suc k) x (suc i) h =
+    rw (get_or_digits k (x / 256) i (le_of_suc-le-suc h), div-div-eq-div-mul x 256 (256 ^ i), pow-succ' 256 i)
 
 -- of the number x, i bytes are stored in d, and this is left of it
 pub record Digits (x : ℕ) (d : List ℕ) (i rest : ℕ) (ys : List ℕ) : Type 0 where
@@ -36,7 +36,7 @@ digits_none x d = record { stored = stored_none (length_digits (length d) x); le
 pub digits_more : {x : ℕ} {d : List ℕ} {i rest : ℕ} {ys : List ℕ} → Digits x d i rest ys → i < length d
     → Digits x d (i + 1) (rest / 256) (set ys i (rest % 256))
 digits_more {x} {d} {i} h low = record {
-  stored = stored_more h.stored low (rw (h.left, get_d_digits (length d) x i low));
+  stored = stored_more h.stored low (rw (h.left, get_or_digits (length d) x i low));
   left = rw (h.left, div-div-eq-div-mul x (256 ^ i) 256, add-one, pow-suc 256 i);
 }
 

@@ -10,7 +10,7 @@ use lib.ListN.{length, drop, get_or, length-drop, drop_of_length-le}
 use lib.Seq.{take-append_seam, drop-append_seam}
 use Rattle.octets.specs.Number.{number, digits}
 use Rattle.octets.specs.Units.{part, put, unit}
-use Rattle.octets.proofs.Units.{apart, unit_fits, units_fit, length_part, unit_unit, part_unit, get_d_unit}
+use Rattle.octets.proofs.Units.{apart, unit_fits, units_fit, length_part, unit_unit, part_unit, get_or_unit}
 use Rattle.layout.specs.declared.Geometry.{Geometry}
 use Rattle.layout.specs.Layout.{layout_of, limits, none, pages, chip_bytes}
 use Rattle.layout.specs.Page.{page_of, page_at, blank_tail, bytes_of_page}
@@ -73,8 +73,8 @@ module _ (g : Geometry) where
       let e : unit u p (unit (chip_bytes (layout_of g)) c chips) ≡ unit u i chips = unit_unit (pages (layout_of g)) u c p chips h in
       record {
         bytes = rw e (rw add-zero at (part_unit u i 0 g.w chips (omega arith)));
-        kind = rw e (get_d_unit u i g.w 0 chips (omega arith));
-        member = rw (e, add_assoc) (get_d_unit u i (g.w + 1) 0 chips (omega arith));
+        kind = rw e (get_or_unit u i g.w 0 chips (omega arith));
+        member = rw (e, add_assoc) (get_or_unit u i (g.w + 1) 0 chips (omega arith));
         stripe = rw (e, add_assoc) (ap number (part_unit u i (g.w + 2) 2 chips (omega arith)));
         copied = rw (e, add_assoc) (ap number (part_unit u i (g.w + 4) 2 chips (omega arith)));
       }

@@ -18,8 +18,8 @@ use Rattle.layout.specs.Record.{Record, row, rest_bytes, six_from, record_of, by
 use Rattle.layout.specs.Collection.{Collection, collection_of, bytes_of_collection}
 
 -- fields behind a list of known length
-pub get_d_from : (n a : ℕ) (xs ys : List ℕ) (d : ℕ) → length xs ≡ n → get_or (xs ++ ys) (n + a) d ≡ get_or ys a d
-get_d_from n a xs ys d e = rw (← e) (get_or-append-add xs ys a d)
+pub get_or_from : (n a : ℕ) (xs ys : List ℕ) (d : ℕ) → length xs ≡ n → get_or (xs ++ ys) (n + a) d ≡ get_or ys a d
+get_or_from n a xs ys d e = rw (← e) (get_or-append-add xs ys a d)
 
 pub part_first : (k : ℕ) (xs ys : List ℕ) → length xs ≡ k → part 0 k (xs ++ ys) ≡ xs
 part_first k xs ys e = part_append_left 0 k xs ys (omega arith) ∙ part_whole k xs e
@@ -107,7 +107,7 @@ module _ (l : Layout) (narrow : l.D ≤ 4) where
       λ i. record {
         bytes = take_at x.bytes (x.kind ∷ x.member ∷ rest) W f.whole i;
         kind = get_or_at x.bytes x.kind (x.member ∷ rest) 0 W f.whole i;
-        member = get_d_from W 1 x.bytes (x.kind ∷ x.member ∷ rest) 0 f.whole i;
+        member = get_or_from W 1 x.bytes (x.kind ∷ x.member ∷ rest) 0 f.whole i;
         stripe = page_stripe x f i;
         copied = page_copied x f i;
         tail = page_tail x f i;
@@ -207,7 +207,7 @@ module _ (l : Layout) (some : 1 ≤ l.D) where
     record_slot : (record_of l (bytes_of_record l r)).slot ≡ r.slot
     unfolding record_of ending
     record_slot =
-        rw (fronted r) (get_d_from (13 * D) 1 (numbers_of r ++ digits D r.parity) ending 0 (length_front r))
+        rw (fronted r) (get_or_from (13 * D) 1 (numbers_of r ++ digits D r.parity) ending 0 (length_front r))
 
     record_rest : RecordFits l r → (record_of l (bytes_of_record l r)).rest ≡ r.rest
     unfolding record_of ending

@@ -52,12 +52,12 @@ stored_all {xs} {d} {i} s h =
 -- ---- a byte of an XOR
 
 -- it is the XOR of the two bytes, whatever the lengths
-pub get_d_xors : (xs ys : List ℕ) (i : ℕ) → get_or (xs ⊕ ys) i 0 ≡ bit_xor (get_or xs i 0) (get_or ys i 0)
+pub get_or_xors : (xs ys : List ℕ) (i : ℕ) → get_or (xs ⊕ ys) i 0 ≡ bit_xor (get_or xs i 0) (get_or ys i 0)
 unfolding ◌⊕◌
-get_d_xors [] ys i = sym (xor_zero_l (get_or ys i 0))
-get_d_xors (x ∷ xs) [] i = sym (xor_zero_r (get_or (x ∷ xs) i 0))
-get_d_xors (x ∷ xs) (y ∷ ys) zero = refl
-get_d_xors (x ∷ xs) (y ∷ ys) (suc i) = get_d_xors xs ys i
+get_or_xors [] ys i = sym (xor_zero_l (get_or ys i 0))
+get_or_xors (x ∷ xs) [] i = sym (xor_zero_r (get_or (x ∷ xs) i 0))
+get_or_xors (x ∷ xs) (y ∷ ys) zero = refl
+get_or_xors (x ∷ xs) (y ∷ ys) (suc i) = get_or_xors xs ys i
 
 -- ---- numbers
 

@@ -41,9 +41,9 @@ pub part_outside : (a k : ℕ) (xs : List ℕ) → length xs ≤ a → part a k 
 unfolding part
 part_outside a k xs h = rw drop_of_length-le (take-nil k)
 
-pub get_d_part : (a k : ℕ) (xs : List ℕ) (i d : ℕ) → i < k → get_or (part a k xs) i d ≡ get_or xs (a + i) d
+pub get_or_part : (a k : ℕ) (xs : List ℕ) (i d : ℕ) → i < k → get_or (part a k xs) i d ≡ get_or xs (a + i) d
 unfolding part
-get_d_part a k xs i d h = rw (get_or-take, get_or-drop)
+get_or_part a k xs i d h = rw (get_or-take, get_or-drop)
 
 -- a part of two lists one behind the other
 pub part_append_left : (a k : ℕ) (xs ys : List ℕ) → a + k ≤ length xs → part a k (xs ++ ys) ≡ part a k xs
@@ -134,9 +134,9 @@ pub part_unit : (u i a k : ℕ) (xs : List ℕ) → a + k ≤ u → part a k (un
 unfolding unit
 part_unit u i a k xs h = part_part (i * u) u a k xs h
 
-pub get_d_unit : (u i a d : ℕ) (xs : List ℕ) → a < u → get_or (unit u i xs) a d ≡ get_or xs (i * u + a) d
+pub get_or_unit : (u i a d : ℕ) (xs : List ℕ) → a < u → get_or (unit u i xs) a d ≡ get_or xs (i * u + a) d
 unfolding unit
-get_d_unit u i a d xs h = get_d_part (i * u) u xs a d h
+get_or_unit u i a d xs h = get_or_part (i * u) u xs a d h
 
 -- a unit of u bytes of a unit of n of them
 pub unit_unit : (n u c p : ℕ) (xs : List ℕ) → p < n → unit u p (unit (n * u) c xs) ≡ unit u (c * n + p) xs

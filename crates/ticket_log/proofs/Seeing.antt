@@ -19,7 +19,7 @@ use Rattle.ranges.proofs.Tallies.{same_tests}
 use Rattle.octets.specs.Number.{number}
 use Rattle.octets.specs.Units.{part, unit}
 use Rattle.octets.proofs.Lists.{number_two, number_four}
-use Rattle.octets.proofs.Units.{part_unit, get_d_unit}
+use Rattle.octets.proofs.Units.{part_unit, get_or_unit}
 use Rattle.rules.specs.declared.Ticket.{Ticket}
 use Rattle.rules.specs.Tickets.{ticket_bytes, ticket_of, ticket_sound, is_for}
 use Rattle.ticket_log.specs.declared.Shown.{Shown}
@@ -38,10 +38,10 @@ pub ticket_is : (page : List ℕ) (i : ℕ)
     ≡ ticket_of (unit ticket_bytes i page)
 unfolding ticket_of
 ticket_is page i =
-    let first : get_or (unit 16 i page) 0 0 ≡ get_or page (i * 16) 0 = get_d_unit 16 i 0 0 page (omega arith) ∙ ap (λ (a : ℕ). get_or page a 0) (add-zero (i * 16)) in
+    let first : get_or (unit 16 i page) 0 0 ≡ get_or page (i * 16) 0 = get_or_unit 16 i 0 0 page (omega arith) ∙ ap (λ (a : ℕ). get_or page a 0) (add-zero (i * 16)) in
     rw (
       first,
-      get_d_unit 16 i 1 0 page (omega arith),
+      get_or_unit 16 i 1 0 page (omega arith),
       part_unit 16 i 2 2 page (omega arith),
       part_unit 16 i 4 4 page (omega arith),
       part_unit 16 i 8 4 page (omega arith),

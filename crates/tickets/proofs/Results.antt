@@ -31,7 +31,7 @@ use Rattle.rules.specs.Calls.{Outcome, add_call, find_call}
 use Rattle.rules.proofs.Soundness.Table.{rows_passed, below_passed, below_failed, both_passed}
 use Rattle.rules.specs.Capacitor.{write_needs}
 use Rattle.rules.proofs.Capacitor.{stores_needed}
-use Rattle.rules.proofs.Lists.Answers.{answer_of, call-refused, call-ran}
+use Rattle.rules.proofs.Lists.Answers.{answer_of, call_refused, call_ran}
 use Rattle.looks.specs.declared.Look.{Look}
 use Rattle.looks.specs.Looks.{below, look_of}
 use Rattle.looks.proofs.Passing.{rows_below, rows_told, one_more, settled_images, ImagesFit, images_fit, Ready, ready}
@@ -128,7 +128,7 @@ module _ (g : Geometry) (s : Images) (lost : ℕ) where
     module _ (a : ℕ) where
       refused_by : (r : Refusal) → checked (add_rows l s lost ticket) ≡ Failed r → ◌≡◌ {A = Outcome} (record { answer = Refused r; images = s }) (add_call l s lost ticket a)
       unfolding add_call
-      refused_by r e = call-refused l (reading (log_reads l s lost)) s a (add_steps l lost ticket) (add_rows l s lost ticket) r e
+      refused_by r e = call_refused l (reading (log_reads l s lost)) s a (add_steps l lost ticket) (add_rows l s lost ticket) r e
 
       pub add_refused : (r : Refusal) → checked above ≡ Failed r → ◌≡◌ {A = Outcome} (record { answer = Refused r; images = s }) (add_call l s lost ticket a)
       add_refused r e = refused_by r (rows_split ∙ rw e)
@@ -160,6 +160,6 @@ module _ (g : Geometry) (s : Images) (lost : ℕ) where
             let page = with_ticket l (contents l s lost) ticket t in
             let passed : checked (add_rows l s lost ticket) ≡ Passed = rows_split ∙ rw (e.rows, is.0, at_end) in
             let short : length (write_steps l (falls_in l t) page s) ≤ write_needs l = rw at_end at ((stores_needed l (lit≤ tt) (lit≤ tt)).add s lost ticket passed) in
-            call-ran l (reading (log_reads l s lost)) s a (add_steps l lost ticket) (add_rows l s lost ticket) (write_steps l (falls_in l t) page s)
+            call_ran l (reading (log_reads l s lost)) s a (add_steps l lost ticket) (add_rows l s lost ticket) (write_steps l (falls_in l t) page s)
             passed (rw at_end) (omega (arith, short, places_most l e.fit.within_limits))
             (begun ∙ ap (λ (n : ℕ). started (reading n) (min a (2 ^ 59))) (sym is.2)) ran

@@ -28,27 +28,27 @@ answer_of p = cond p.cut (Cut p.counts) (Done p.counts)
 
 -- an allowance that is not less than a list is long is as good as any other
 module _ (a most : ℕ) (xs : List Step) (short : length xs ≤ most) where
-  made-enough : made (min a most) xs ≡ made a xs
-  made-enough = by_order a most (λ h. rw (min-eq_left (le_of_lt h))) (λ h. rw (min-eq_right h, take_all most xs short, take_all a xs (omega arith)))
+  made_enough : made (min a most) xs ≡ made a xs
+  made_enough = by_order a most (λ h. rw (min-eq_left (le_of_lt h))) (λ h. rw (min-eq_right h, take_all most xs short, take_all a xs (omega arith)))
 
-  cut-enough : is_cut (min a most) xs ≡ is_cut a xs
-  cut-enough =
+  cut_enough : is_cut (min a most) xs ≡ is_cut a xs
+  cut_enough =
       by_order a most (λ h. rw (min-eq_left (le_of_lt h))) (λ h. rw (min-eq_right h, le-ltb most (length xs) short, le-ltb a (length xs) (omega arith)))
 
 -- what the code answers, having run the list under the allowance or as much of it as any list needs
-pub ran-outcome : (l : Layout) (n : Counts) (a most : ℕ) (xs : List Step) (r : Progress) (s t : Images) → length xs ≤ most → Ran l (started n (min a most)) xs r s t
+pub ran_outcome : (l : Layout) (n : Counts) (a most : ℕ) (xs : List Step) (r : Progress) (s t : Images) → length xs ≤ most → Ran l (started n (min a most)) xs r s t
     → ◌≡◌ {A = Outcome} (record { answer = answer_of r; images = t }) (run l n a xs s)
 unfolding run after applied
-ran-outcome l n a most xs r s t short h = rw (h.progress, h.images, made-enough a most xs short, cut-enough a most xs short)
+ran_outcome l n a most xs r s t short h = rw (h.progress, h.images, made_enough a most xs short, cut_enough a most xs short)
 
 module _ (l : Layout) (n : Counts) (s : Images) (a : ℕ) (steps : Images → List Step) (rows : List Row) where
   -- a call whose rows come to a refusal
-  pub call-refused : (r : Refusal) → checked rows ≡ Failed r
+  pub call_refused : (r : Refusal) → checked rows ≡ Failed r
       → ◌≡◌ {A = Outcome} (record { answer = Refused r; images = s }) (outcome l (checked rows) n a steps s)
-  call-refused r e = rw e
+  call_refused r e = rw e
 
   -- one whose rows pass, and whose list the code has run: no list is as long as the most that the code counts down from
-  pub call-ran : (xs : List Step) {p q : Progress} {t : Images} → checked rows ≡ Passed → steps s ≡ xs → length xs ≤ 2 ^ 59
+  pub call_ran : (xs : List Step) {p q : Progress} {t : Images} → checked rows ≡ Passed → steps s ≡ xs → length xs ≤ 2 ^ 59
       → p ≡ started n (min a (2 ^ 59)) → Ran l p xs q s t
       → ◌≡◌ {A = Outcome} (record { answer = answer_of q; images = t }) (outcome l (checked rows) n a steps s)
-  call-ran xs {q = q} {t = t} e list short begun h = rw (e, list) (ran-outcome l n a (2 ^ 59) xs q s t short (rw begun at h))
+  call_ran xs {q = q} {t = t} e list short begun h = rw (e, list) (ran_outcome l n a (2 ^ 59) xs q s t short (rw begun at h))

@@ -1,5 +1,5 @@
 -- The first half of a collection: phase 1, the copies, phase 2. Every cut of it keeps what the images hold, and at its end the copies are twins.
-use Prim.Native.Nat.{ℕ, suc, ◌+◌, ◌≤◌, ◌<◌}
+use Prim.Native.Nat.{ℕ, suc, ◌+◌, ◌-◌, ◌≤◌, ◌<◌}
 use native.Mathlib.Nat.{le_refl, le_step, lt-suc_self, le_of_lt}
 use native.Mathlib.Omega.{arith}
 use mathlib.Core.Path.{◌≡◌, refl, sym, ap, ◌∙◌}
@@ -62,9 +62,13 @@ module _ (l : Layout) where
         × (page_at l t.chips c (page_in l d k) ≡ copy_of l (page_in l v n) (page_at l s.chips c (page_in l v n)) (page_at l s.chips c (page_in l v n)).bytes)
     pub ahead : (k : ℕ) → count_below i (named_in l (record_at l s.records) c v) ≤ k → k < K → clean_in l (page_at l t.chips c) d k ≡ true
 
-  -- the copies are made: phase 2; the victim is as full as it was, and the destination clean behind its copies
+  -- the copies are made: phase 2, and the destination's last page is clean; the victim is as full as it was, and the destination clean behind
+  -- its copies
   pub record AllCopied (s : Images) (c v d : ℕ) (t : Images) : Type 0 where
     pub collection : collection_at l t.records ≡ phase 2 c v d
+    pub last : ℕ
+    pub fits : last < K
+    pub is_clean : clean_in l (page_at l t.chips c) d last ≡ true
     pub full : (i : ℕ) → i < K → clean_in l (page_at l t.chips c) v i ≡ false
     pub ahead : (k : ℕ) → count_below K (named_in l (record_at l s.records) c v) ≤ k → k < K → clean_in l (page_at l t.chips c) d k ≡ true
 
@@ -327,6 +331,9 @@ module _ (l : Layout) (u : Usable l) where
       unfolding apply
       all_copied = record {
         collection = collection_view l u t g (phase 2 c v d) (phase_sound_lem 2 (omega arith) (omega arith));
+        last = K - 1;
+        fits = omega (arith, u.within.places_low);
+        is_clean = m.ahead (K - 1) (omega (arith, o.fewer)) (omega (arith, u.within.places_low));
         full = λ i place. rw (original i place) (o.full i place);
         ahead = m.ahead;
       }
