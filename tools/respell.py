@@ -17,6 +17,9 @@ CRATES = {"bytes": "octets", "log": "ticket_log"}
 # facts, which are spelled as types
 FACTS = {"allName": "AllName", "onlyAdds": "OnlyAdds", "allAllowed": "AllAllowed"}
 
+# a name that port.py turns itself
+BY_PORT = {"get_d_part": "get_or_part"}
+
 # names of one file: facts, and lemmas that would fall together with a definition
 LOCAL = {
     "rules/proofs/Data/Parity.antt": {"memberIn": "MemberIn"},
@@ -86,6 +89,7 @@ def table():
         if "-" in old and (new in camel or new in names):
             turned[old] = new + "_lem"
     turned.update(FACTS)
+    turned.update(BY_PORT)
     return turned
 
 
