@@ -2,7 +2,8 @@
 //!
 //!     set_aside SOURCE FILE [EDIT]
 //!
-//! prints SOURCE, which is FILE of its crate (src/lib.rt). What rustc lacks is dropped: `ghost use`, `requires`, `ensures` and the attribute `tactic`.
+//! prints SOURCE, which is FILE of its crate (src/lib.rt). What rustc lacks is dropped: `ghost use`, ghost fields, `requires`, `ensures` and the
+//! attribute `tactic`.
 //! The exports are plain functions, for slices do not cross the border to C in Rust.
 //! An edit has lines `file:`, `old:` and `new:`, as those that the proof must refuse. What it says of other files is
 //! passed over; where it does not fit FILE, the program ends with status 3.
@@ -78,7 +79,8 @@ fn without_contracts(text: &str) -> String {
     while !rest.is_empty() {
         let word = word_len(rest);
         let (kept, dropped) = match &rest[..word] {
-            "ghost" => (0, rest.find(';').map_or(rest.len(), |end| end + 1)),
+            "pub" if rest[word..].starts_with(" ghost ") => (0, word),
+            "ghost" => (0, ghost_len(rest)),
             "requires" | "ensures" => (0, word + clause_len(&rest[word..])),
             "" => (plain_len(rest), 0),
             _ => (word, 0),
@@ -93,6 +95,15 @@ fn without_contracts(text: &str) -> String {
 
 fn word_len(text: &str) -> usize {
     text.find(|c: char| c != '_' && !c.is_alphanumeric()).unwrap_or(text.len())
+}
+
+/// An import up to its semicolon, or a field or a member with the comma or the semicolon behind it.
+fn ghost_len(text: &str) -> usize {
+    if text.starts_with("ghost use") {
+        return text.find(';').map_or(text.len(), |end| end + 1);
+    }
+    let end = clause_len(text);
+    end + usize::from(text[end..].starts_with([',', ';']))
 }
 
 /// A clause up to its closing brace; a name may stand before it.

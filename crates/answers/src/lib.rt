@@ -5,12 +5,10 @@
 ghost use Rattle.std.specs.Prelude.{◌≡◌, cond};
 ghost use Rattle.rules.specs.Refusals.{refusal_number};
 ghost use Rattle.rules.specs.Origins.{origin_number};
-ghost use Rattle.steps.specs.Steps.{no_counts};
 ghost use Rattle.rules.specs.declared.Answer.TheVariants.{Cut, Done};
-ghost use Rattle.rules.specs.declared.Standing.TheVariants.{Nothing};
-ghost use Rattle.answers.specs.Reports.{report_of, origin_report_of, standing_report_of};
+ghost use Rattle.answers.specs.Reports.{report_of, origin_report_of, standing_report_of, reported, read_reported, find_reported};
 
-use rules::{Answer, Origin, Refusal, Standing};
+use rules::{Answer, Finding, Origin, Reading, Refusal, Weight};
 use steps::{Counts, Progress};
 
 // 0 for done, 255 for cut, or the number of the refusal; and the counts.
@@ -51,7 +49,8 @@ pub struct FindReport {
     pub origin: u64,
 }
 
-// The number of a refusal in the table.
+// The number of a refusal in the table. No cast: the table's numbers stand here, and an enum cannot have one of them twice, as three
+// must-fail edits of this function do.
 pub fn refusal_number(r: Refusal) -> u64
     ensures { result ≡ refusal_number r }
 {
@@ -71,7 +70,7 @@ pub fn refusal_number(r: Refusal) -> u64
     }
 }
 
-// The number of how a page was got.
+// The number of how a page was got; no cast, as for a refusal.
 pub fn origin_number(o: Origin) -> u64
     ensures { result ≡ origin_number o }
 {
@@ -83,7 +82,7 @@ pub fn origin_number(o: Origin) -> u64
     }
 }
 
-// The answer of a call that stores.
+// The answer of a call that stores. No From: neither type is of this crate.
 pub fn answer(p: Progress) -> Answer
     ensures { result ≡ cond p.cut (Cut p.counts) (Done p.counts) }
 {
@@ -95,20 +94,7 @@ pub fn answer(p: Progress) -> Answer
     }
 }
 
-// The counts of a refusal.
-fn no_counts() -> Counts
-    ensures { result ≡ no_counts }
-{
-    Counts {
-        reads: 0,
-        programs: 0,
-        erases: 0,
-        stores: 0,
-    }
-}
-
-// A report of an answer that has counts.
-pub fn with_counts(status: u64, c: Counts) -> Report
+fn with_counts(status: u64, c: Counts) -> Report
     ensures { result ≡ report_of status c }
 {
     Report {
@@ -120,15 +106,20 @@ pub fn with_counts(status: u64, c: Counts) -> Report
     }
 }
 
-// A report of a refusal.
-pub fn without_counts(r: Refusal) -> Report
-    ensures { result ≡ report_of (refusal_number r) no_counts }
-{
-    with_counts(refusal_number(r), no_counts())
+// Of a call that stores.
+impl From<Result<Answer, Refusal>> for Report {
+    ghost from_gives = { λ given report. report ≡ reported given };
+
+    fn from(given: Result<Answer, Refusal>) -> Report {
+        match given {
+            Ok(Answer::Done(c)) => with_counts(0, c),
+            Ok(Answer::Cut(c)) => with_counts(255, c),
+            Err(r) => with_counts(refusal_number(r), Counts::NONE),
+        }
+    }
 }
 
-// A report of a read that has counts.
-pub fn with_origin(status: u64, counts: Counts, origin: u64) -> ReadReport
+fn with_origin(status: u64, counts: Counts, origin: u64) -> ReadReport
     ensures { result ≡ origin_report_of status counts origin }
 {
     ReadReport {
@@ -141,25 +132,25 @@ pub fn with_origin(status: u64, counts: Counts, origin: u64) -> ReadReport
     }
 }
 
-// A report of a read that is refused.
-pub fn without_origin(r: Refusal) -> ReadReport
-    ensures { result ≡ origin_report_of (refusal_number r) no_counts 0 }
-{
-    with_origin(refusal_number(r), no_counts(), 0)
+// Of a read.
+impl From<Result<Reading, Refusal>> for ReadReport {
+    ghost from_gives = { λ given report. report ≡ read_reported given };
+
+    fn from(given: Result<Reading, Refusal>) -> ReadReport {
+        match given {
+            Ok(x) => with_origin(0, x.counts, origin_number(x.origin)),
+            Err(r) => with_origin(refusal_number(r), Counts::NONE, 0),
+        }
+    }
 }
 
-// A report of a question that has counts.
-pub fn with_standing(status: u64, counts: Counts, x: Standing, origin: u64) -> FindReport
+fn with_standing(status: u64, counts: Counts, x: Option<Weight>, origin: u64) -> FindReport
     ensures { result ≡ standing_report_of status counts x origin }
 {
-    let mut standing = 0;
-    let mut gross = 0;
-    let mut tare = 0;
-    if let Standing::Weighed(w) = x {
-        standing = 1;
-        gross = w.gross as u64;
-        tare = w.tare as u64;
-    }
+    let (standing, gross, tare) = match x {
+        Some(w) => (1, w.gross as u64, w.tare as u64),
+        None => (0, 0, 0),
+    };
     FindReport {
         status,
         reads: counts.reads,
@@ -173,9 +164,14 @@ pub fn with_standing(status: u64, counts: Counts, x: Standing, origin: u64) -> F
     }
 }
 
-// A report of a question that is refused.
-pub fn without_standing(r: Refusal) -> FindReport
-    ensures { result ≡ standing_report_of (refusal_number r) no_counts Nothing 0 }
-{
-    with_standing(refusal_number(r), no_counts(), Standing::Nothing, 0)
+// Of a question.
+impl From<Result<Finding, Refusal>> for FindReport {
+    ghost from_gives = { λ given report. report ≡ find_reported given };
+
+    fn from(given: Result<Finding, Refusal>) -> FindReport {
+        match given {
+            Ok(x) => with_standing(0, x.counts, x.standing, origin_number(x.origin)),
+            Err(r) => with_standing(refusal_number(r), Counts::NONE, None, 0),
+        }
+    }
 }

@@ -5,9 +5,9 @@
 
 ghost use Rattle.std.specs.Prelude.{◌≤◌, IfOk};
 
-use commands::{Command, parse};
+use commands::{Act, parse};
 use layout::{Geometry, NO_CHIP};
-use rules::{Answer, Reading, Refusal};
+use rules::{Answer, Refusal};
 use std::io;
 use steps::Counts;
 
@@ -33,7 +33,7 @@ fn say_number(rt: &impl Print, x: u64) -> io::Result<()> {
     print!(rt; " {x}")
 }
 
-fn say_byte(rt: &impl Print, x: u64) -> io::Result<()> {
+fn say_byte(rt: &impl Print, x: u8) -> io::Result<()> {
     print!(rt; " {x:02x}")
 }
 
@@ -48,23 +48,15 @@ fn say_refusal(rt: &impl Print, r: Refusal) -> io::Result<()> {
     say_number(rt, answers::refusal_number(r))
 }
 
-fn say_answer(rt: &impl Print, a: Answer) -> io::Result<()> {
+fn say_answer(rt: &impl Print, a: Result<Answer, Refusal>) -> io::Result<()> {
     match a {
-        Answer::Done(c) => say_counts(rt, c),
-        Answer::Cut(c) => {
+        Ok(Answer::Done(c)) => say_counts(rt, c),
+        Ok(Answer::Cut(c)) => {
             say(rt, b" cut")?;
             say_counts(rt, c)
         }
-        Answer::Refused(r) => say_refusal(rt, r),
+        Err(r) => say_refusal(rt, r),
     }
-}
-
-fn wide(b: u8) -> u64 {
-    b as u64
-}
-
-fn first(page: &[u8; 16]) -> u64 {
-    wide(page[0])
 }
 
 fn write(
@@ -102,12 +94,12 @@ fn read(
     let mut bytes = [0u8; 16];
     let answer = calls::read(geometry(), chips, records, slots, lost, page, &mut bytes);
     match answer {
-        Reading::Done(c, o) => {
-            say_byte(rt, first(&bytes))?;
-            say_counts(rt, c)?;
-            say_number(rt, answers::origin_number(o))
+        Ok(x) => {
+            say_byte(rt, bytes[0])?;
+            say_counts(rt, x.counts)?;
+            say_number(rt, answers::origin_number(x.origin))
         }
-        Reading::Refused(r) => say_refusal(rt, r),
+        Err(r) => say_refusal(rt, r),
     }
 }
 
@@ -130,25 +122,18 @@ fn obey(
     records: &mut [u8],
     slots: &mut [u8],
     lost: u64,
-    c: Command,
+    act: Act,
 ) -> io::Result<u64> {
-    let letter = c.letter;
-    match letter {
-        b'w' => write(rt, chips, records, slots, lost, c.number, c.byte)?,
-        b'r' => read(rt, chips, records, slots, lost, c.number)?,
-        b'c' => commit(rt, chips, records, slots, lost, c.number)?,
-        _ => return Ok(c.number),
+    match act {
+        Act::Write { page, byte } => write(rt, chips, records, slots, lost, page, byte)?,
+        Act::Read { page } => read(rt, chips, records, slots, lost, page)?,
+        Act::Commit { stripe } => commit(rt, chips, records, slots, lost, stripe)?,
+        Act::Lose { chip } => return Ok(chip),
     }
     Ok(lost)
 }
 
-// Whether the program goes on after a line, and with which chip lost.
-#[derive(Clone, Copy)]
-struct Turn {
-    more: bool,
-    lost: u64,
-}
-
+// Obeys a line, and answers which chip is lost from here; none where the line ends the program.
 fn obey_line(
     rt: &impl Print,
     chips: &mut [u8],
@@ -157,22 +142,18 @@ fn obey_line(
     lost: u64,
     buffer: &[u8; 11],
     n: usize,
-) -> io::Result<Turn>
+) -> io::Result<Option<u64>>
     requires { n ≤ 11 }
 {
     let line: &[u8] = buffer;
-    let c = parse(&line[0..n]);
-    if c.letter == 0 {
-        return Ok(Turn { more: false, lost });
-    }
+    let Some(c) = parse(&line[0..n]) else {
+        return Ok(None);
+    };
     let end = c.digits + 2;
     say(rt, &line[0..end])?;
-    let now_lost = obey(rt, chips, records, slots, lost, c)?;
+    let now_lost = obey(rt, chips, records, slots, lost, c.act)?;
     say(rt, b"\n")?;
-    Ok(Turn {
-        more: true,
-        lost: now_lost,
-    })
+    Ok(Some(now_lost))
 }
 
 // The next byte of standard input, and a newline at its end: so a last line needs none, and the
@@ -187,16 +168,14 @@ fn next_byte(input: &mut impl io::Read) -> io::Result<u8> {
 fn next_line(input: &mut impl io::Read, line: &mut [u8; 11]) -> io::Result<usize>
     ensures { IfOk result (λ n. n ≤ 11) }
 {
-    let mut n = 0;
-    while n < 11 {
+    for (n, place) in line.iter_mut().enumerate() {
         let b = next_byte(input)?;
         if b == b'\n' {
             return Ok(n);
         }
-        line[n] = b;
-        n += 1;
+        *place = b;
     }
-    Ok(n)
+    Ok(line.len())
 }
 
 // A proved loop has to end, and nothing says that standard input does. So the loop counts its
@@ -212,11 +191,10 @@ fn obey_all(
     let mut lost = NO_CHIP as u64;
     for _ in 0..u64::MAX {
         let n = next_line(input, &mut line)?;
-        let turn = obey_line(rt, chips, records, slots, lost, &line, n)?;
-        if !turn.more {
+        let Some(now_lost) = obey_line(rt, chips, records, slots, lost, &line, n)? else {
             return Ok(());
-        }
-        lost = turn.lost;
+        };
+        lost = now_lost;
     }
     Ok(())
 }
@@ -225,6 +203,7 @@ fn main(rt: HostRuntime) -> io::Result<()> {
     let mut chips = [0u8; 1920];
     let mut records = [0u8; 224];
     let mut slots = [0u8; 48];
-    calls::format(geometry(), &mut chips, &mut records, &slots, ALLOWANCE);
+    // of this geometry and these lengths it is never refused, and the allowance is ample
+    let _ = calls::format(geometry(), &mut chips, &mut records, &slots, ALLOWANCE);
     obey_all(&rt, &mut rt.stdin(), &mut chips, &mut records, &mut slots)
 }

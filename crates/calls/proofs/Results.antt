@@ -9,8 +9,7 @@ use mathlib.Core.List.{List, [], ◌∷◌, ◌++◌}
 use lib.ListN.{length}
 use lib.Dec.{lit≤, ltb, leb}
 use borrow.Author.Tests.{eq-eqb, eqb-true}
-use Rattle.ranges.specs.declared.Found.{Found}
-use Rattle.ranges.specs.declared.Found.TheVariants.{At, Nothing}
+use Rattle.std.specs.Prelude.{Option, Some, Result, Ok, Err, ok_or}
 use Rattle.ranges.specs.Look.{when_found}
 use Rattle.layout.specs.declared.Geometry.{Geometry}
 use Rattle.layout.specs.Layout.{Layout, layout_of, no_chip}
@@ -25,10 +24,7 @@ use Rattle.steps.specs.Allowance.{started, Sane, Ran}
 use Rattle.steps.proofs.Allowances.{ran_none}
 use Rattle.rules.specs.declared.Refusal.{Refusal}
 use Rattle.rules.specs.declared.Refusal.TheVariants.{Request, Work}
-use Rattle.rules.specs.declared.Check.{Check}
-use Rattle.rules.specs.declared.Check.TheVariants.{Passed, Failed}
-use Rattle.rules.specs.declared.Answer.TheVariants.{Refused}
-use Rattle.rules.specs.declared.Reading.TheVariants.{Done as ReadDone, Refused as ReadRefused}
+use Rattle.rules.specs.Refusals.{Check, Row, unless, checked, page_rows, chip_set_row, collectable_on, buffers_rows, images_rows, settled_rows, read_rows, write_rows, commit_rows, collect_rows}
 use Rattle.rules.specs.Open.{finish_steps, open_steps}
 use Rattle.rules.specs.Read.{fetch_member, fetch}
 use Rattle.rules.specs.Format.{format_steps}
@@ -36,7 +32,6 @@ use Rattle.rules.specs.Collect.{victim_of, collect_block, collect_steps}
 use Rattle.collect.proofs.Rooms.{collect_found}
 use Rattle.rules.specs.Commit.{commit_steps}
 use Rattle.rules.specs.Write.{write_member, write_steps}
-use Rattle.rules.specs.Refusals.{Row, unless, checked, page_rows, chip_set_row, collectable_on, buffers_rows, images_rows, settled_rows, read_rows, write_rows, commit_rows, collect_rows}
 use Rattle.rules.specs.Calls.{Outcome, ReadOutcome, read_into, format_call, open_call, read_call, write_call, commit_call, collect_call}
 use Rattle.rules.proofs.Soundness.Table.{rows_passed, below_passed, below_failed, both_passed}
 use Rattle.rules.proofs.Soundness.Accepted.{write_accepted}
@@ -46,8 +41,8 @@ use Rattle.rules.proofs.Capacitor.{stores_needed}
 use Rattle.rules.proofs.Lists.EachCall.{open_lost}
 use Rattle.rules.proofs.Lists.Answers.{answer_of, call_refused, call_ran}
 use Rattle.looks.specs.declared.Look.{Look}
-use Rattle.looks.specs.Looks.{below, look_of}
-use Rattle.looks.proofs.Passing.{rows_below, rows_told, PageReady, page_ready, Ready, ready}
+use Rattle.looks.specs.Looks.{look_of}
+use Rattle.looks.proofs.Passing.{told_of, found_told, top_refused, mid_refused, below_decide, look_passed, PageReady, page_ready, Ready, ready}
 use Rattle.rules.specs.declared.Origin.{Origin}
 
 -- ---- format
@@ -58,31 +53,31 @@ format_short l w =
     omega (arith, format_length l, w.stripes_high)
 
 module _ (l : Layout) (s : Images) (a : ℕ) where
-  pub format_refused : (r : Refusal) → checked (buffers_rows l s) ≡ Failed r → ◌≡◌ {A = Outcome} (record { answer = Refused r; images = s }) (format_call l s a)
+  pub format_refused : {r : Refusal} → checked (buffers_rows l s) ≡ Err r → ◌≡◌ {A = Outcome} (record { answer = Err r; images = s }) (format_call l s a)
   unfolding format_call
-  format_refused r e = call_refused l no_counts s a (λ t. format_steps l) (buffers_rows l s) r e
+  format_refused {r} e = call_refused l no_counts s a (λ t. format_steps l) (buffers_rows l s) r e
 
-  pub format_ran : {p q : Progress} {t : Images} → Within l → checked (buffers_rows l s) ≡ Passed → p ≡ started no_counts (min a (2 ^ 59))
-      → Ran l p (format_steps l) q s t → ◌≡◌ {A = Outcome} (record { answer = answer_of q; images = t }) (format_call l s a)
+  pub format_ran : {p q : Progress} {t : Images} → Within l → checked (buffers_rows l s) ≡ Ok tt → p ≡ started no_counts (min a (2 ^ 59))
+      → Ran l p (format_steps l) q s t → ◌≡◌ {A = Outcome} (record { answer = Ok (answer_of q); images = t }) (format_call l s a)
   unfolding format_call
   format_ran w e begun h = call_ran l no_counts s a (λ t. format_steps l) (buffers_rows l s) (format_steps l) e refl (format_short l w) begun h
 
 -- ---- open
 
 module _ (l : Layout) (s : Images) (lost a : ℕ) where
-  pub open_refused : (r : Refusal) → checked (images_rows l s lost) ≡ Failed r → ◌≡◌ {A = Outcome} (record { answer = Refused r; images = s }) (open_call l s lost a)
+  pub open_refused : {r : Refusal} → checked (images_rows l s lost) ≡ Err r → ◌≡◌ {A = Outcome} (record { answer = Err r; images = s }) (open_call l s lost a)
   unfolding open_call
-  open_refused r e = call_refused l no_counts s a (open_steps l lost) (images_rows l s lost) r e
+  open_refused {r} e = call_refused l no_counts s a (open_steps l lost) (images_rows l s lost) r e
 
   -- with a chip lost there is no store
-  pub open_nothing : {p : Progress} → checked (images_rows l s lost) ≡ Passed → lost ≢ no_chip → p ≡ started no_counts (min a (2 ^ 59)) → Sane p
-      → ◌≡◌ {A = Outcome} (record { answer = answer_of p; images = s }) (open_call l s lost a)
+  pub open_nothing : {p : Progress} → checked (images_rows l s lost) ≡ Ok tt → lost ≢ no_chip → p ≡ started no_counts (min a (2 ^ 59)) → Sane p
+      → ◌≡◌ {A = Outcome} (record { answer = Ok (answer_of p); images = s }) (open_call l s lost a)
   unfolding open_call
   open_nothing {p} e d begun sane = call_ran l no_counts s a (open_steps l lost) (images_rows l s lost) [] e (open_lost l s lost d) (omega arith) begun (ran_none l p s sane)
 
   -- else it is the end of the collection
-  pub open_finished : {p q : Progress} {t : Images} → Within l → checked (images_rows l s lost) ≡ Passed → lost ≡ no_chip → p ≡ started no_counts (min a (2 ^ 59))
-      → Ran l p (finish_steps l s) q s t → ◌≡◌ {A = Outcome} (record { answer = answer_of q; images = t }) (open_call l s lost a)
+  pub open_finished : {p q : Progress} {t : Images} → Within l → checked (images_rows l s lost) ≡ Ok tt → lost ≡ no_chip → p ≡ started no_counts (min a (2 ^ 59))
+      → Ran l p (finish_steps l s) q s t → ◌≡◌ {A = Outcome} (record { answer = Ok (answer_of q); images = t }) (open_call l s lost a)
   unfolding open_call open_steps
   open_finished w e none_lost begun h =
       let named = eq-eqb lost no_chip none_lost in
@@ -104,7 +99,7 @@ free_rows fits lost = (fits, Request) ∷ chip_set_row lost ∷ []
 
 -- what a write relies on whose rows have passed
 pub record WriteReady (g : Geometry) (s : Images) (lost page : ℕ) (xs : List ℕ) (look : Look) : Type 0 where
-  pub rows : checked (write_rows (layout_of g) s lost page xs) ≡ Passed
+  pub rows : checked (write_rows (layout_of g) s lost page xs) ≡ Ok tt
   pub ready : Ready g s look
   pub stripe : page / g.n < g.s
   pub member : page % g.n < g.n
@@ -112,7 +107,7 @@ pub record WriteReady (g : Geometry) (s : Images) (lost page : ℕ) (xs : List �
 
 -- and a commit or a collect whose rows up to row 9 have passed
 pub record FreeReady (g : Geometry) (s : Images) (lost : ℕ) (fits : Bool) (look : Look) : Type 0 where
-  pub rows : checked (settled_rows (layout_of g) s lost ++ free_rows fits lost) ≡ Passed
+  pub rows : checked (settled_rows (layout_of g) s lost ++ free_rows fits lost) ≡ Ok tt
   pub ready : Ready g s look
   pub fit : fits ≡ true
 
@@ -127,136 +122,169 @@ module _ (g : Geometry) (s : Images) (lost : ℕ) where
   -- ---- read
 
   module _ (page : ℕ) (buffer : List ℕ) where
-    pub read_told : {look : Look} {k : Check} → look ≡ look_of l s lost (checked (images_rows l s lost))
-        → k ≡ below look.check (checked (page_rows l page (length buffer))) → k ≡ checked (read_rows l s lost page buffer)
-    unfolding read_rows
-    read_told seen e = rows_told l s lost (images_rows l s lost) (page_rows l page (length buffer)) seen e
+    abbrev page_ones : List Row
+    page_ones = page_rows l page (length buffer)
 
-    pub read_ready : checked (read_rows l s lost page buffer) ≡ Passed → ReadReady g s page buffer
+    -- rows 7 and 8 decide where those above have passed
+    pub read_told : {k : Check} → checked (images_rows l s lost) ≡ Ok tt → k ≡ checked page_ones → checked (read_rows l s lost page buffer) ≡ k
+    unfolding read_rows
+    read_told e f = below_passed (images_rows l s lost) page_ones e ∙ sym f
+
+    pub read_first : {r : Refusal} → checked (images_rows l s lost) ≡ Err r → checked (read_rows l s lost page buffer) ≡ Err r
+    unfolding read_rows
+    read_first {r} e = below_failed (images_rows l s lost) page_ones r e
+
+    pub read_ready : checked (read_rows l s lost page buffer) ≡ Ok tt → ReadReady g s page buffer
     unfolding read_rows
     read_ready e =
-        let rest = (both_passed (images_rows l s lost) (page_rows l page (length buffer)) e).1 in
+        let rest = (both_passed (images_rows l s lost) page_ones e).1 in
         record {
           ready = page_ready g s lost page _ e;
-          whole = eqb-true (length buffer) g.w (rows_passed (page_rows l page (length buffer)) rest).1.0;
+          whole = eqb-true (length buffer) g.w (rows_passed page_ones rest).1.0;
         }
 
-    pub read_refused : (r : Refusal) → checked (read_rows l s lost page buffer) ≡ Failed r
-        → ◌≡◌ {A = ReadOutcome} (record { answer = ReadRefused r; buffer = buffer }) (read_call l s lost page buffer)
+    pub read_refused : {r : Refusal} → checked (read_rows l s lost page buffer) ≡ Err r
+        → ◌≡◌ {A = ReadOutcome} (record { answer = Err r; buffer = buffer }) (read_call l s lost page buffer)
     unfolding read_call
-    read_refused r e = rw e
+    read_refused e = rw e
 
-    pub read_done : {bytes : List ℕ} {reads : ℕ} {origin : Origin} → checked (read_rows l s lost page buffer) ≡ Passed
+    pub read_done : {bytes : List ℕ} {reads : ℕ} {origin : Origin} → checked (read_rows l s lost page buffer) ≡ Ok tt
         → record { bytes = bytes; reads = reads; origin = origin } ≡ fetch_member l s lost (page / g.n) (page % g.n)
-        → ◌≡◌ {A = ReadOutcome} (record { answer = ReadDone (record { reads = reads; programs = 0; erases = 0; stores = 0 }) origin; buffer = bytes }) (read_call l s lost page buffer)
+        → ◌≡◌ {A = ReadOutcome} (record { answer = Ok (record { counts = (record { reads = reads; programs = 0; erases = 0; stores = 0 }); origin = origin }); buffer = bytes }) (read_call l s lost page buffer)
     unfolding read_call fetch
     read_done e f = rw e (ap read_into f)
 
   -- ---- write, commit and collect
 
   module _ (page : ℕ) (xs : List ℕ) where
-    pub write_told : {look : Look} {k more : Check} → look ≡ look_of l s lost (checked (settled_rows l s lost))
-        → k ≡ below look.check (checked (page_rows l page (length xs))) → more ≡ below k (checked (chip_set_row lost ∷ [])) → more ≡ checked (write_rows l s lost page xs)
-    unfolding write_rows
-    write_told seen e f =
-        f ∙ rw (rows_told l s lost (settled_rows l s lost) (page_rows l page (length xs)) seen e)
-        (sym (rows_below (settled_rows l s lost ++ page_rows l page (length xs)) (chip_set_row lost ∷ [])))
+    abbrev page_rows_of : List Row
+    page_rows_of = page_rows l page (length xs)
 
-    pub write_ready : {look : Look} {k : Check} → look ≡ look_of l s lost (checked (settled_rows l s lost)) → k ≡ checked (write_rows l s lost page xs) → k ≡ Passed
-        → WriteReady g s lost page xs look
+    pub write_ready : {given : Result Look Refusal} {look : Look} {k more : Check} → given ≡ look_of l s lost (checked (settled_rows l s lost)) → given ≡ Ok look
+        → k ≡ checked page_rows_of → k ≡ Ok tt → more ≡ checked (chip_set_row lost ∷ []) → more ≡ Ok tt → WriteReady g s lost page xs look
     unfolding write_rows
-    write_ready seen told passed =
-        let e = sym told ∙ passed in
-        let (none_lost, o) = write_accepted l s lost page xs e in
-        let above = (both_passed (settled_rows l s lost ++ page_rows l page (length xs)) (chip_set_row lost ∷ []) e).0 in
-        let top = (both_passed (settled_rows l s lost) (page_rows l page (length xs)) above).0 in
+    write_ready seen found e f h i =
+        let rows = below_decide (settled_rows l s lost) page_rows_of (chip_set_row lost ∷ []) (look_passed l s lost seen found) (sym e ∙ f) ∙ sym h ∙ i in
+        let (none_lost, o) = write_accepted l s lost page xs rows in
         record {
-          rows = e;
-          ready = ready g s lost seen top none_lost;
+          rows = rows;
+          ready = ready g s lost seen found none_lost;
           stripe = stripe_fits l o.settled.within page o.page;
           member = member_fits l o.settled.within page;
           whole = o.whole;
         }
 
-    pub write_refused : (a : ℕ) (r : Refusal) → checked (write_rows l s lost page xs) ≡ Failed r
-        → ◌≡◌ {A = Outcome} (record { answer = Refused r; images = s }) (write_call l s lost page xs a)
-    unfolding write_call
-    write_refused a r e = call_refused l no_counts s a (write_steps l page xs) (write_rows l s lost page xs) r e
+    write_refused : (a : ℕ) {r : Refusal} → checked ((settled_rows l s lost ++ page_rows_of) ++ (chip_set_row lost ∷ [])) ≡ Err r
+        → ◌≡◌ {A = Outcome} (record { answer = Err r; images = s }) (write_call l s lost page xs a)
+    unfolding write_call write_rows
+    write_refused a {r} e = call_refused l no_counts s a (write_steps l page xs) (write_rows l s lost page xs) r e
+
+    -- refused by rows 1 to 6, by 7 and 8, by 9
+    module _ (a : ℕ) {r : Refusal} where
+      pub write_first : checked (settled_rows l s lost) ≡ Err r → ◌≡◌ {A = Outcome} (record { answer = Err r; images = s }) (write_call l s lost page xs a)
+      write_first e = write_refused a (top_refused (settled_rows l s lost) page_rows_of (chip_set_row lost ∷ []) e)
+
+      pub write_second : checked (settled_rows l s lost) ≡ Ok tt → checked page_rows_of ≡ Err r
+          → ◌≡◌ {A = Outcome} (record { answer = Err r; images = s }) (write_call l s lost page xs a)
+      write_second e f = write_refused a (mid_refused (settled_rows l s lost) page_rows_of (chip_set_row lost ∷ []) e f)
+
+      pub write_third : checked (settled_rows l s lost) ≡ Ok tt → checked page_rows_of ≡ Ok tt → checked (chip_set_row lost ∷ []) ≡ Err r
+          → ◌≡◌ {A = Outcome} (record { answer = Err r; images = s }) (write_call l s lost page xs a)
+      write_third e f h = write_refused a (below_decide (settled_rows l s lost) page_rows_of (chip_set_row lost ∷ []) e f ∙ h)
 
     pub write_ran : (a : ℕ) {look : Look} {p q : Progress} {t : Images} → WriteReady g s lost page xs look → p ≡ started no_counts (min a (2 ^ 59))
-        → Ran l p (write_member l (page / g.n) (page % g.n) xs s) q s t → ◌≡◌ {A = Outcome} (record { answer = answer_of q; images = t }) (write_call l s lost page xs a)
+        → Ran l p (write_member l (page / g.n) (page % g.n) xs s) q s t → ◌≡◌ {A = Outcome} (record { answer = Ok (answer_of q); images = t }) (write_call l s lost page xs a)
     unfolding write_call write_steps
     write_ran a e begun h =
         call_ran l no_counts s a (write_steps l page xs) (write_rows l s lost page xs) (write_steps l page xs s) e.rows refl
         (short l (length (write_steps l page xs s)) (needed.write s lost page xs e.rows) e.ready.store.within_limits.places_high) begun h
 
   module _ (fits : Bool) where
-    pub free_told : {look : Look} {k : Check} → look ≡ look_of l s lost (checked (settled_rows l s lost))
-        → k ≡ below look.check (checked (free_rows fits lost)) → k ≡ checked (settled_rows l s lost ++ free_rows fits lost)
-    free_told seen e = rows_told l s lost (settled_rows l s lost) (free_rows fits lost) seen e
-
-    pub free_ready : {look : Look} {k : Check} → look ≡ look_of l s lost (checked (settled_rows l s lost)) → k ≡ checked (settled_rows l s lost ++ free_rows fits lost) → k ≡ Passed
-        → FreeReady g s lost fits look
-    free_ready seen told passed =
-        let e = sym told ∙ passed in
-        let (top, rest) = both_passed (settled_rows l s lost) (free_rows fits lost) e in
-        let h = rows_passed (free_rows fits lost) rest in
-        record { rows = e; ready = ready g s lost seen top (eqb-true lost no_chip h.1.0); fit = h.0 }
+    pub free_ready : {given : Result Look Refusal} {look : Look} {k : Check} → given ≡ look_of l s lost (checked (settled_rows l s lost)) → given ≡ Ok look
+        → k ≡ checked (free_rows fits lost) → k ≡ Ok tt → FreeReady g s lost fits look
+    free_ready seen found e f =
+        let free = sym e ∙ f in
+        let h = rows_passed (free_rows fits lost) free in
+        record {
+          rows = below_passed (settled_rows l s lost) (free_rows fits lost) (look_passed l s lost seen found) ∙ free;
+          ready = ready g s lost seen found (eqb-true lost no_chip h.1.0);
+          fit = h.0;
+        }
 
   module _ (j a : ℕ) where
-    pub commit_refused : (r : Refusal) → checked (settled_rows l s lost ++ free_rows (ltb j g.s) lost) ≡ Failed r
-        → ◌≡◌ {A = Outcome} (record { answer = Refused r; images = s }) (commit_call l s lost j a)
-    unfolding commit_call commit_rows
-    commit_refused r e =
-        call_refused l no_counts s a (commit_steps l j) (commit_rows l s lost j) r
-        (below_failed (settled_rows l s lost ++ free_rows (ltb j g.s) lost) ((has_slot (record_at l s.records j), Work) ∷ []) r e)
+    abbrev slot_rows : List Row
+    slot_rows = (has_slot (record_at l s.records j), Work) ∷ []
 
-    -- what row 10 comes to
-    commit_last : (slot : Bool) → checked (settled_rows l s lost ++ free_rows (ltb j g.s) lost) ≡ Passed → has_slot (record_at l s.records j) ≡ slot
-        → checked (commit_rows l s lost j) ≡ unless slot Work Passed
-    unfolding commit_rows
-    commit_last slot e f = below_passed (settled_rows l s lost ++ free_rows (ltb j g.s) lost) ((has_slot (record_at l s.records j), Work) ∷ []) e ∙ rw f
+    commit_refused : {r : Refusal} → checked ((settled_rows l s lost ++ free_rows (ltb j g.s) lost) ++ slot_rows) ≡ Err r
+        → ◌≡◌ {A = Outcome} (record { answer = Err r; images = s }) (commit_call l s lost j a)
+    unfolding commit_call commit_rows
+    commit_refused {r} e = call_refused l no_counts s a (commit_steps l j) (commit_rows l s lost j) r e
+
+    -- refused by rows 1 to 6, by 7 and 9
+    module _ {r : Refusal} where
+      pub commit_first : checked (settled_rows l s lost) ≡ Err r → ◌≡◌ {A = Outcome} (record { answer = Err r; images = s }) (commit_call l s lost j a)
+      commit_first e = commit_refused (top_refused (settled_rows l s lost) (free_rows (ltb j g.s) lost) slot_rows e)
+
+      pub commit_second : checked (settled_rows l s lost) ≡ Ok tt → checked (free_rows (ltb j g.s) lost) ≡ Err r
+          → ◌≡◌ {A = Outcome} (record { answer = Err r; images = s }) (commit_call l s lost j a)
+      commit_second e f = commit_refused (mid_refused (settled_rows l s lost) (free_rows (ltb j g.s) lost) slot_rows e f)
 
     module _ {look : Look} (e : FreeReady g s lost (ltb j g.s) look) where
-      pub commit_slotless : has_slot (record_at l s.records j) ≡ false → ◌≡◌ {A = Outcome} (record { answer = Refused Work; images = s }) (commit_call l s lost j a)
+      -- row 10 decides
+      commit_last : checked (commit_rows l s lost j) ≡ checked slot_rows
+      unfolding commit_rows
+      commit_last = below_passed (settled_rows l s lost ++ free_rows (ltb j g.s) lost) slot_rows e.rows
+
+      pub commit_slotless : {r : Refusal} → checked slot_rows ≡ Err r → ◌≡◌ {A = Outcome} (record { answer = Err r; images = s }) (commit_call l s lost j a)
       unfolding commit_call
-      commit_slotless f = call_refused l no_counts s a (commit_steps l j) (commit_rows l s lost j) Work (commit_last false e.rows f)
+      commit_slotless {r} f = call_refused l no_counts s a (commit_steps l j) (commit_rows l s lost j) r (commit_last ∙ f)
 
       pub commit_ran : {p q : Progress} {t : Images} → has_slot (record_at l s.records j) ≡ true → p ≡ started no_counts (min a (2 ^ 59))
-          → Ran l p (commit_steps l j s) q s t → ◌≡◌ {A = Outcome} (record { answer = answer_of q; images = t }) (commit_call l s lost j a)
+          → Ran l p (commit_steps l j s) q s t → ◌≡◌ {A = Outcome} (record { answer = Ok (answer_of q); images = t }) (commit_call l s lost j a)
       unfolding commit_call
       commit_ran f begun h =
-          let passed = commit_last true e.rows f in
+          let passed : checked (commit_rows l s lost j) ≡ Ok tt = commit_last ∙ rw f in
           call_ran l no_counts s a (commit_steps l j) (commit_rows l s lost j) (commit_steps l j s) passed refl
           (short l (length (commit_steps l j s)) (omega (arith, needed.commit s lost j passed)) e.ready.store.within_limits.places_high) begun h
 
   module _ (c a : ℕ) where
-    abbrev victim : Found
+    abbrev victim : Option ℕ
     victim = victim_of l c (page_at l s.chips c) (record_at l s.records)
 
-    pub collect_refused : (r : Refusal) → checked (settled_rows l s lost ++ free_rows (leb c g.n) lost) ≡ Failed r
-        → ◌≡◌ {A = Outcome} (record { answer = Refused r; images = s }) (collect_call l s lost c a)
-    unfolding collect_call collect_rows
-    collect_refused r e =
-        call_refused l no_counts s a (collect_steps l c) (collect_rows l s lost c) r
-        (below_failed (settled_rows l s lost ++ free_rows (leb c g.n) lost) ((collectable_on l s c, Work) ∷ []) r e)
+    abbrev victim_rows : List Row
+    victim_rows = (collectable_on l s c, Work) ∷ []
 
-    -- what row 10 comes to
-    collect_last : (found : Found) → checked (settled_rows l s lost ++ free_rows (leb c g.n) lost) ≡ Passed → victim ≡ found
-        → checked (collect_rows l s lost c) ≡ unless (when_found found (λ b. true) false) Work Passed
-    unfolding collect_rows
-    collect_last found e f = below_passed (settled_rows l s lost ++ free_rows (leb c g.n) lost) ((collectable_on l s c, Work) ∷ []) e ∙ rw f
+    collect_refused : {r : Refusal} → checked ((settled_rows l s lost ++ free_rows (leb c g.n) lost) ++ victim_rows) ≡ Err r
+        → ◌≡◌ {A = Outcome} (record { answer = Err r; images = s }) (collect_call l s lost c a)
+    unfolding collect_call collect_rows
+    collect_refused {r} e = call_refused l no_counts s a (collect_steps l c) (collect_rows l s lost c) r e
+
+    -- refused by rows 1 to 6, by 7 and 9
+    module _ {r : Refusal} where
+      pub collect_first : checked (settled_rows l s lost) ≡ Err r → ◌≡◌ {A = Outcome} (record { answer = Err r; images = s }) (collect_call l s lost c a)
+      collect_first e = collect_refused (top_refused (settled_rows l s lost) (free_rows (leb c g.n) lost) victim_rows e)
+
+      pub collect_second : checked (settled_rows l s lost) ≡ Ok tt → checked (free_rows (leb c g.n) lost) ≡ Err r
+          → ◌≡◌ {A = Outcome} (record { answer = Err r; images = s }) (collect_call l s lost c a)
+      collect_second e f = collect_refused (mid_refused (settled_rows l s lost) (free_rows (leb c g.n) lost) victim_rows e f)
 
     module _ {look : Look} (e : FreeReady g s lost (leb c g.n) look) where
-      pub collect_nothing : victim ≡ Nothing → ◌≡◌ {A = Outcome} (record { answer = Refused Work; images = s }) (collect_call l s lost c a)
-      unfolding collect_call when_found
-      collect_nothing f = call_refused l no_counts s a (collect_steps l c) (collect_rows l s lost c) Work (collect_last Nothing e.rows f)
+      -- row 10 decides
+      collect_last : (found : Option ℕ) → victim ≡ found → checked (collect_rows l s lost c) ≡ unless (when_found found (λ b. true) false) Work (Ok tt)
+      unfolding collect_rows
+      collect_last found f = below_passed (settled_rows l s lost ++ free_rows (leb c g.n) lost) victim_rows e.rows ∙ rw f
 
-      pub collect_ran : {p q : Progress} {t : Images} (v : ℕ) → victim ≡ At v → p ≡ started no_counts (min a (2 ^ 59))
-          → Ran l p (collect_block l c v s) q s t → ◌≡◌ {A = Outcome} (record { answer = answer_of q; images = t }) (collect_call l s lost c a)
+      pub collect_nothing : {found : Option ℕ} {k : Result ℕ Refusal} {r : Refusal} → found ≡ victim → k ≡ ok_or found Work → k ≡ Err r
+          → ◌≡◌ {A = Outcome} (record { answer = Err r; images = s }) (collect_call l s lost c a)
+      unfolding collect_call when_found
+      collect_nothing {found} {r = r} f h i =
+          call_refused l no_counts s a (collect_steps l c) (collect_rows l s lost c) r (collect_last found (sym f) ∙ found_told found Work ∙ ap told_of (sym h ∙ i))
+
+      pub collect_ran : {p q : Progress} {t : Images} (v : ℕ) → victim ≡ Some v → p ≡ started no_counts (min a (2 ^ 59))
+          → Ran l p (collect_block l c v s) q s t → ◌≡◌ {A = Outcome} (record { answer = Ok (answer_of q); images = t }) (collect_call l s lost c a)
       unfolding collect_call when_found
       collect_ran {p} {q} {t} v f begun h =
           let ran : Ran l p (collect_steps l c s) q s t = rw (collect_found l s c f) h in
-          let passed = collect_last (At v) e.rows f in
+          let passed = collect_last (Some v) f in
           call_ran l no_counts s a (collect_steps l c) (collect_rows l s lost c) (collect_steps l c s) passed refl
           (short l (length (collect_steps l c s)) (omega (arith, needed.collect s lost c passed)) e.ready.store.within_limits.places_high) begun ran

@@ -2,9 +2,10 @@
 use Prim.Native.Nat.{ℕ, ◌+◌, ◌-◌, ◌*◌, ◌/◌, ◌%◌, ◌≤◌, ◌<◌}
 use native.Mathlib.Nat.{add_assoc}
 use native.Mathlib.Omega.{arith}
-use mathlib.Core.Path.{◌≡◌, refl, ap, ◌∙◌}
+use mir.Val.{bool_byte}
+use mathlib.Core.Path.{◌≡◌, refl, sym, ap, ◌∙◌}
 use mathlib.Core.Logic.{◌≢◌}
-use mathlib.Core.Bool.{Bool, true, false, not, cond, ◌||◌, and-true, and-false, or-false}
+use mathlib.Core.Bool.{Bool, true, false, not, cond, ◌&&◌, ◌||◌, and-true, and-false, or-false}
 use mathlib.Core.List.{List}
 use lib.ListN.{length, get_or}
 use lib.Dec.{ltb, leb, eqb}
@@ -12,8 +13,8 @@ use borrow.Author.Tests.{lt-ltb, le-ltb, le-leb, eq-eqb, ne_eqb, eqb-true, ltb-t
 use Rattle.ranges.specs.Look.{all_below, count_below}
 use Rattle.ranges.proofs.Looks.{by_order, by_same, all_at, all_true}
 use Rattle.ranges.proofs.Counts.{count_fail, count_cong, count_zero, count_all, count_positive}
-use Rattle.ranges.proofs.Tallies.{same_tests, count_from}
-use Rattle.ranges.proofs.Tests.{under, unless_equal}
+use Rattle.ranges.proofs.Tallies.{ones, same_tests, count_from}
+use Rattle.ranges.proofs.Tests.{and_both, under, unless_equal}
 use Rattle.octets.proofs.Lists.{number_two}
 use Rattle.layout.specs.declared.Geometry.{Geometry}
 use Rattle.layout.specs.Layout.{layout_of, limits, none}
@@ -57,6 +58,15 @@ bare_plain {g} {e} b =
 
 -- ---- one number
 
+-- a test as a number
+pub tested : (b : Bool) → (bool_byte b ≡ ones b) × (bool_byte b ≤ 1)
+tested true = (refl, omega arith)
+tested false = (refl, omega arith)
+
+untested : (b : Bool) → bool_byte (not b) ≡ cond b 0 1
+untested true = refl
+untested false = refl
+
 -- the number after x: 0 after none, which is the largest
 abbrev pub next : ℕ → ℕ
 next x = (x + 1) % 65536
@@ -76,11 +86,11 @@ in_range {n} {pages} {tops} r m x h small t d =
     (λ b. let top = rw (le-ltb m n b) at (r.is m h) in absurd (d (omega arith)))
 
 -- the parity page is below the pages
-pub parity_low : (p pages : ℕ) → eqb p 65535 || ltb p pages ≡ true → p ≢ 65535 → p < pages
+parity_low : (p pages : ℕ) → eqb p 65535 || ltb p pages ≡ true → p ≢ 65535 → p < pages
 parity_low p pages t d = ltb-true p pages (unless_equal p 65535 (ltb p pages) t d)
 
 -- without one there are no pages
-pub no_parity : (p names : ℕ) → not (eqb p 65535) || eqb names 0 ≡ true → p ≡ 65535 → names ≡ 0
+no_parity : (p names : ℕ) → not (eqb p 65535) || eqb names 0 ≡ true → p ≡ 65535 → names ≡ 0
 no_parity p names t q = eqb-true names 0 (under (eqb p 65535) (eqb names 0) t (eq-eqb p 65535 q))
 
 -- a number that is written is within its range, and a page exactly if a member's
@@ -204,7 +214,7 @@ module _ {xs : List ℕ} {a : ℕ} (long : a + 32 ≤ length xs) (bytes : (i : �
 module _ {g : Geometry} {xs tops : List ℕ} {j p : ℕ} (fit : RecordsFit g xs) (stripe : j < g.s)
     (ranges : Ranges g.n (g.b * g.k) tops) (bytes : (i : ℕ) → get_or xs i 0 < 256) (is : p ≡ number_at xs (j * 32 + 24)) where
   -- it is plain where its ending is clear, its numbers are within their ranges, and there are none without a parity page
-  pub plain : Clear xs (j * 32) → all_below 8 (low_in tops xs (j * 32)) ≡ true
+  plain : Clear xs (j * 32) → all_below 8 (low_in tops xs (j * 32)) ≡ true
       → (p ≢ 65535 → p < g.b * g.k) → (p ≡ 65535 → count_below 8 (given_in xs (j * 32)) ≡ 0)
       → Plain (layout_of g) (record_at (layout_of g) xs j) (count_below 8 (given_in xs (j * 32)) + cond (eqb p 65535) 0 1)
   unfolding records_length
@@ -222,3 +232,12 @@ module _ {g : Geometry} {xs tops : List ℕ} {j p : ℕ} (fit : RecordsFit g xs)
       let limit = bounded g fit.limited in
       let (lows, count) = all_written ranges (omega arith) limit.pages (omega arith) xs (j * 32) all in
       rw (count, ne_eqb p 65535 (omega arith)) at (plain ends lows (λ d. low) (λ q. absurd (omega (arith, low, limit.pages))))
+
+  -- the flag and the count of a look at all eight numbers tell as much
+  pub glanced : {low : Bool} {names own : ℕ} → Clear xs (j * 32) → low ≡ all_below 8 (low_in tops xs (j * 32)) → names ≡ count_below 8 (given_in xs (j * 32))
+      → low && (eqb p 65535 || ltb p (g.b * g.k)) && (not (eqb p 65535) || eqb names 0) ≡ true → own ≡ bool_byte (not (eqb p 65535))
+      → Plain (layout_of g) (record_at (layout_of g) xs j) (names + own)
+  glanced ends lows counted t with_own =
+      let (two, without) = and_both _ _ t in
+      let (low, page) = and_both _ _ two in
+      rw (with_own, untested (eqb p 65535), counted) (plain ends (sym lows ∙ low) (parity_low _ _ page) (λ q. sym counted ∙ no_parity _ _ without q))

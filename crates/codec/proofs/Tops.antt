@@ -1,23 +1,33 @@
--- The tops as they are filled: before member m, those below m are.
-use Prim.Native.Nat.{ℕ, ◌+◌, ◌<◌}
+-- The tops: pages for each of the n members, and 0 behind them.
+use Prim.Native.Nat.{ℕ, ◌-◌, ◌≤◌, ◌<◌}
 use native.Mathlib.Omega.{arith}
-use mathlib.Core.Path.{refl}
-use mathlib.Core.List.{List}
-use lib.ListN.{set, replicate, length-set, get_or-replicate}
-use lib.Seq.{get_or-set_same, get_or-set_other}
+use mathlib.Core.Path.{◌≡◌}
+use mathlib.Core.Bool.{cond}
+use mathlib.Core.List.{List, ◌++◌}
+use lib.Dec.{ltb}
+use lib.ListN.{length, get_or, take, drop, replicate, get_or-replicate, get_or-append, length-append, length-replicate}
+use lib.Seq.{length-take-le, get_or-append_right}
 use borrow.Author.Tests.{lt-ltb, le-ltb}
-use Rattle.ranges.proofs.Looks.{by_three}
+use Rattle.std.proofs.lemmas.List.{drop-replicate}
+use Rattle.ranges.proofs.Looks.{by_order}
 use Rattle.codec.specs.Scan.{Ranges}
 
-pub tops_none : {pages : ℕ} → Ranges 0 pages (replicate 8 0)
-tops_none = record { long = refl; is = λ i h. rw (le-ltb i 0 (omega arith)) (get_or-replicate 8 i 0 0 h) }
+-- a number of k, of which the first n are v and the others 0
+split_at : (k n v m : ℕ) → n ≤ k → m < k → get_or (replicate n v ++ replicate (k - n) 0) m 0 ≡ cond (ltb m n) v 0
+split_at k n v m h low =
+    let long : length (replicate n v) ≡ n = length-replicate n v in
+    by_order m n
+    (λ b. rw (lt-ltb m n b, get_or-append (replicate n v) (replicate (k - n) 0) 0 m (omega arith)) (get_or-replicate n m v 0 b))
+    (λ b.
+    rw (le-ltb m n b, get_or-append_right (replicate n v) (replicate (k - n) 0) m 0 (omega arith), long)
+    (get_or-replicate (k - n) (m - n) 0 0 (omega arith)))
 
-pub tops_more : {m pages : ℕ} {tops : List ℕ} → Ranges m pages tops → m < 8 → Ranges (m + 1) pages (set tops m pages)
-tops_more {m} {pages} {tops} r h =
-    record {
-      long = rw length-set r.long;
-      is = λ i low. by_three i m
-          (λ b. rw (get_or-set_other tops m i pages 0 (omega arith), r.is i low, lt-ltb i m b, lt-ltb i (m + 1) (omega arith)))
-          (λ q. rw (q, get_or-set_same tops m pages 0 (omega (arith, r.long)), lt-ltb m (m + 1) (omega arith)))
-          (λ b. rw (get_or-set_other tops m i pages 0 (omega arith), r.is i low, le-ltb i m (omega arith), le-ltb i (m + 1) (omega arith)));
-    }
+-- so the tops are where the first n of eight zeros are filled
+pub tops_filled : {n pages : ℕ} {xs : List ℕ} → n ≤ 8 → xs ≡ replicate (length (take n (replicate {A = ℕ} 8 0))) pages
+    → Ranges n pages (xs ++ drop n (replicate 8 0))
+tops_filled {n} {pages} {xs} h e =
+    let first : xs ≡ replicate n pages = rw (length-take-le n (replicate {A = ℕ} 8 0) h) at e in
+    rw (first, drop-replicate {X = ℕ} n 8 0) (record {
+      long = simp (length-append, length-replicate) (omega arith);
+      is = λ m low. split_at 8 n pages m h low;
+    })

@@ -1,7 +1,7 @@
 //! Pages, records and the collection record as they lie in their images, and where the pages of a stripe stand. All that knows
-//! offsets and lengths is in this crate.
+//! offsets and lengths is in this crate. A function is lent the one image that it looks at or stores into, and no view of all three.
 
-#![tactic(auto)]
+#![tactic(auto, unfolding(layout::specs::Images::records_length))]
 
 pub mod limits;
 pub mod put;
@@ -20,12 +20,13 @@ ghost use Rattle.codec.specs.Views.{record_from, ended, spare_of, six_at, SmallR
 use layout::Geometry;
 use octets::{byte, number_at, zeros};
 
-// The bytes of a page number, and the number of no page.
+// The bytes of a page number.
 const WIDTH: usize = 2;
 
+// The number of no page. No Option: records and spares hold this number, and the definitions name it (`none` in `layout`).
 pub const NONE: usize = 65535;
 
-// The slot of a record without one.
+// The slot of a record without one. No Option, as for pages (`has_slot`).
 pub const NO_SLOT: usize = 255;
 // The bytes of a stripe's number in a spare, and of a block's in the collection record.
 const SHORT: usize = 2;
@@ -70,14 +71,14 @@ const TAIL_AT: usize = COPIED_AT + WIDTH;
 const TAIL_BYTES: usize = SPARE_BYTES - TAIL_AT;
 
 const TAIL: usize = 65535;
-// The kinds of pages.
+// The kinds of pages. No enum: a spare may hold any other byte, and `twin` compares those too.
 const CLEAN: u16 = 255;
 
 pub const DATA: usize = 68;
 
 pub const PARITY: usize = 80;
 
-// The record of a stripe, but for the zeros behind it.
+// The record of a stripe, but for the zeros behind it. It has six places whatever N is, as in the holding memory.
 #[derive(Clone, Copy)]
 pub struct StripeRecord {
     pub current: [usize; 6],
@@ -87,8 +88,8 @@ pub struct StripeRecord {
     pub slot: usize,
 }
 
-// The collection record, but for the zeros behind it.
-#[derive(Clone, Copy)]
+// The collection record, but for the zeros behind it. Its phase is no enum: it may hold any byte, which `collection_sound` judges.
+#[derive(Clone, Copy, Default)]
 pub struct CollectionRecord {
     pub phase: usize,
     pub chip: usize,
@@ -96,7 +97,7 @@ pub struct CollectionRecord {
     pub destination: usize,
 }
 
-// The spare bytes of a page, but for the tail.
+// The spare bytes of a page, but for the tail. No ghost field says that they are small: `spare_of` makes them of any page.
 #[derive(Clone, Copy)]
 pub struct Spare {
     pub kind: usize,
@@ -186,7 +187,7 @@ pub fn is_clean(chips: &[u8], g: Geometry, c: usize, p: usize) -> bool
     is_clean_kind(byte(chips, page_offset(g, c, p) + w) as u16)
 }
 
-// The data of page p of chip c.
+// The data of page p of chip c. Not one with `slot_data`: each is little but its own offset.
 pub fn page_data(chips: &[u8], g: Geometry, c: usize, p: usize) -> &[u8]
     requires { ChipsFit g chips.now × (c ≤ g.n) × (p < pages (layout_of g)) }
     ensures { (result.now ≡ (page_at (layout_of g) chips.now c p).bytes) × (length result.now ≡ g.w) }
@@ -238,7 +239,7 @@ pub fn record_at(records: &[u8], g: Geometry, j: usize) -> StripeRecord
     }
 }
 
-// Whether the bytes behind the record of stripe j are zeros.
+// Whether the bytes behind the record of stripe j are zeros. Not one with `collection_ends`: each is little but its own bounds.
 pub fn record_ends(records: &[u8], g: Geometry, j: usize) -> bool
     requires { RecordsFit g records.now × (j < g.s) }
     ensures { result ≡ eqb (record_at (layout_of g) records.now j).rest 0 }
@@ -248,7 +249,7 @@ pub fn record_ends(records: &[u8], g: Geometry, j: usize) -> bool
     zeros(&records[a..e])
 }
 
-// The bitmap of stripe j.
+// The bitmap of stripe j. Not one with `slot_at`: each is one read.
 pub fn bitmap_at(records: &[u8], g: Geometry, j: usize) -> usize
     requires { RecordsFit g records.now × (j < g.s) }
     ensures { (result ≡ (record_at (layout_of g) records.now j).bitmap) × (result < 256) }

@@ -54,7 +54,7 @@ pub fn geometry_passes(g: Geometry) -> bool
 // Whether each image has its length.
 pub fn lengths_pass(g: Geometry, chips: &[u8], records: &[u8], slots: &[u8]) -> bool
     requires { limits (layout_of g) ≡ true }
-    ensures { result ≡ lengths (layout_of g) (record { chips = chips.entry.now; records = records.now; slots = slots.now }) }
+    ensures { result ≡ lengths (layout_of g) (record { chips = chips.now; records = records.now; slots = slots.now }) }
 {
     let n = g.n as usize;
     let w = g.w as usize;

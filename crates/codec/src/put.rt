@@ -18,7 +18,7 @@ use super::{
     TAIL, TAIL_AT, TAIL_BYTES, VICTIM_AT, WIDTH, ZEROS, ZEROS_AT, page_offset,
 };
 use layout::Geometry;
-use octets::{copy, fill};
+use octets::copy;
 
 // What an erase makes of every byte.
 const ERASED: u8 = 255;
@@ -27,6 +27,7 @@ const ERASED: u8 = 255;
 fn fill_number(dst: &mut [u8], x: usize)
     ensures { dst.new ≡ digits (length dst.old) x }
 {
+    // by index: what is left of the number goes from byte to byte
     let mut rest = x;
     for i in 0..dst.len() {
         dst[i] = (rest % 256) as u8;
@@ -48,10 +49,8 @@ fn put_six(dst: &mut [u8], a: usize, xs: [usize; 6])
     requires { a + 12 ≤ length dst.old }
     ensures { dst.new ≡ put a 12 (row 2 (λ m. get_or xs m 0) 6) dst.old }
 {
-    let mut m = 0;
-    while m < 6 {
-        put_number(dst, a + m * WIDTH, WIDTH, xs[m]);
-        m += 1;
+    for (m, x) in xs.iter().enumerate() {
+        put_number(dst, a + m * WIDTH, WIDTH, *x);
     }
 }
 
@@ -101,7 +100,7 @@ fn fill_page(page: &mut [u8], bytes: &[u8], t: Spare)
 {
     let w = bytes.len();
     let e = w + SPARE_BYTES;
-    copy(&mut page[0..w], bytes);
+    copy(&mut page[..w], bytes);
     fill_spare(&mut page[w..e], t);
 }
 
@@ -125,7 +124,7 @@ pub fn put_clean_block(chips: &mut [u8], g: Geometry, c: usize, b: usize)
     let w = g.w as usize;
     let a = page_offset(g, c, b * k);
     let e = a + k * (w + SPARE_BYTES);
-    fill(&mut chips[a..e], ERASED);
+    chips[a..e].fill(ERASED);
 }
 
 // The first n blocks of the image become clean: chips stand end to end.
@@ -136,7 +135,7 @@ pub fn put_clean_blocks(chips: &mut [u8], g: Geometry, n: usize)
     let k = g.k as usize;
     let w = g.w as usize;
     let e = n * (k * (w + SPARE_BYTES));
-    fill(&mut chips[0..e], ERASED);
+    chips[..e].fill(ERASED);
 }
 
 // Slot i becomes the bytes.
@@ -180,11 +179,10 @@ pub fn put_empty_records(records: &mut [u8], g: Geometry, n: usize)
     requires { RecordsFit g records.old × (n ≤ g.s) }
     ensures { records.new ≡ first_units (record_bytes (layout_of g)) n (bytes_of_record (layout_of g) (empty_record (layout_of g))) records.old }
 {
-    let mut j = 0;
-    while j < n {
+    // by index: of what a loop over chunks_exact_mut writes, a proof knows only the length
+    for j in 0..n {
         let first = j * RECORD_BYTES;
         let end = first + RECORD_BYTES;
         copy(&mut records[first..end], &EMPTY);
-        j += 1;
     }
 }

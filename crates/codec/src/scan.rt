@@ -1,6 +1,6 @@
 //! Many pages or records looked at in one go, as the checks do.
 
-ghost use Rattle.std.specs.Prelude.{◌≡◌, true, List, ℕ, ◌+◌, ◌*◌, ◌≤◌, ◌<◌, length, get_or};
+ghost use Rattle.std.specs.Prelude.{◌≡◌, true, List, ℕ, ◌+◌, ◌*◌, ◌≤◌, ◌<◌, length, get_or, IfSome};
 ghost use Rattle.ranges.specs.Look.{all_below};
 ghost use Rattle.layout.specs.Layout.{layout_of, limits, pages};
 ghost use Rattle.layout.specs.Page.{page_at};
@@ -21,6 +21,7 @@ pub const OLD: usize = 6;
 
 pub const LAST: usize = 12;
 
+// no Option: indices stand side by side in 16 bits each, of which many are made in one step
 pub const NO_INDEX: usize = 255;
 
 // Number i of the record of stripe j.
@@ -72,12 +73,10 @@ pub fn fetch_stamps(
 {
     let w = g.w as usize;
     let start = page_offset(g, c, first) + w;
-    let mut i = 0;
-    while i < count {
+    for i in 0..count {
         let a = start + i * (w + SPARE_BYTES);
         tags[i] = tag_at(chips, a);
         stripes[i] = number_at(chips, a + STRIPE_AT) as u16;
-        i += 1;
     }
 }
 
@@ -102,11 +101,7 @@ pub fn ranges(g: Geometry) -> [u16; 8]
     let n = g.n as usize;
     let pages = (g.b * g.k) as u16;
     let mut tops = [0u16; 8];
-    let mut m = 0;
-    while m < n {
-        tops[m] = pages;
-        m += 1;
-    }
+    tops[..n].fill(pages);
     tops
 }
 
@@ -128,12 +123,10 @@ fn all_written(records: &[u8], a: usize, tops: &[u16; 8]) -> bool
     ensures { result ≡ all_below 8 (written_in tops.now records.now a) }
 {
     let mut written = true;
-    let mut i = 0;
-    while i < 8 {
+    for i in 0..8 {
         let x = number_at(records, a + WIDTH * i) as u16;
         let top = tops[i];
-        written = written & ((x < top) | ((x == NO_PAGE) & (top == 0)));
-        i += 1;
+        written &= (x < top) | ((x == NO_PAGE) & (top == 0));
     }
     written
 }
@@ -178,47 +171,32 @@ pub fn seen_full(records: &[u8], g: Geometry, j: usize, tops: &[u16; 8]) -> bool
     is_clear(end) & (end.last % 65536 < pages) & all_written(records, a, tops)
 }
 
-// What a second look at a record brings.
-#[derive(Clone, Copy)]
-pub struct Glance {
-    // nothing is in the partial parity, and every number is one that may be there; where this is false, nothing is known
-    pub plain: bool,
-    // how many page numbers it has, where it is plain
-    pub names: usize,
-}
-
-// A second look, at the record of a stripe that is not full.
-pub fn glance_at(records: &[u8], g: Geometry, j: usize, tops: &[u16; 8]) -> Glance
+// A second look, at the record of a stripe that is not full. Where nothing is in the partial parity, and every number is one that may be
+// there, it answers how many page numbers the record has; else nothing is known.
+pub fn glance_at(records: &[u8], g: Geometry, j: usize, tops: &[u16; 8]) -> Option<usize>
     requires { RecordsFit g records.now × (j < g.s) × Ranges g.n (g.b * g.k) tops.now }
-    ensures { result.plain ≡ true → Plain (layout_of g) (record_at (layout_of g) records.now j) result.names }
+    ensures { IfSome result (λ names. Plain (layout_of g) (record_at (layout_of g) records.now j) names) }
 {
     let a = j * RECORD_BYTES;
     let pages = (g.b * g.k) as usize;
     let end = ending_at(records, a);
     // most of these are in the partial parity: their numbers are not looked at here
     if !is_clear(end) {
-        return Glance {
-            plain: false,
-            names: 0,
-        };
+        return None;
     }
     let parity = end.last % 65536;
     let bare = parity == NONE;
     let mut low = true;
     let mut names: usize = 0;
-    let mut m = 0;
-    while m < 8 {
+    for m in 0..8 {
         // none is the largest number, and the next one is 0
         let next = ((number_at(records, a + WIDTH * m) + 1) % 65536) as u16;
-        low = low & (next <= tops[m]);
-        if next != 0 {
-            names += 1;
-        }
-        m += 1;
+        low &= next <= tops[m];
+        names += usize::from(next != 0);
     }
     let plain = low & (bare | (parity < pages)) & (!bare | (names == 0));
-    if !bare {
-        names += 1;
+    if !plain {
+        return None;
     }
-    Glance { plain, names }
+    Some(names + usize::from(!bare))
 }

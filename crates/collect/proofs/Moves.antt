@@ -1,7 +1,7 @@
 -- The moves of a collection as the code makes them, one place after another, and the list of its end.
 use Prim.Native.Nat.{ℕ, ◌+◌, ◌*◌, ◌≤◌, ◌<◌}
 use native.Mathlib.Omega.{arith}
-use mathlib.Core.Path.{◌≡◌, refl, sym, ◌∙◌}
+use mathlib.Core.Path.{◌≡◌, sym, ◌∙◌}
 use mathlib.Core.Logic.{◌≢◌}
 use mathlib.Core.Bool.{Bool, true, false}
 use mathlib.Core.List.{List, [], ◌∷◌}
@@ -35,8 +35,8 @@ use Rattle.collect.proofs.Underway.{Working, working}
 
 -- ---- the move of one place
 
-module _ (g : Geometry) (chips records : List ℕ) (h : Checked g no_chip chips records) (t : CollectionRecord)
-    (is : CollectionIs t (collection_at (layout_of g) records)) (busy : t.phase ≡ 2) (i : ℕ) (place : i < g.k) where
+module _ {g : Geometry} {chips records : List ℕ} (h : Checked g no_chip chips records) {t : CollectionRecord}
+    (is : CollectionIs t (collection_at (layout_of g) records)) (busy : t.phase ≡ 2) {i : ℕ} (place : i < g.k) where
   abbrev l : Layout
   l = layout_of g
 
@@ -52,7 +52,7 @@ module _ (g : Geometry) (chips records : List ℕ) (h : Checked g no_chip chips 
 
   -- the collection is under way, and the page is one of the chip
   pub under_way : Working g t
-  under_way = working g chips records h t is (omega arith)
+  under_way = working h is (omega arith)
 
   pub page_fits : q < pages l
   page_fits = page_in_fits l t.destination i under_way.destination place
@@ -67,7 +67,7 @@ module _ (g : Geometry) (chips records : List ℕ) (h : Checked g no_chip chips 
   no_move e zs = rw (sym due_there ∙ e)
 
   -- where it is due, with the spare u of that page
-  module _ (e : is_due ≡ true) (u : Spare) (spare : u ≡ spare_of (page_at l chips t.chip q)) where
+  module _ (e : is_due ≡ true) {u : Spare} (spare : u ≡ spare_of (page_at l chips t.chip q)) where
     -- its stripe is one of the store's
     pub due_stripe : u.stripe < g.s
     due_stripe =
@@ -103,18 +103,17 @@ moved_sound l u s t f busy i fits e =
 -- the moves of the places below i have brought the progress p and the records x₀ to q and x
 pub record Carried (g : Geometry) (chips x₀ : List ℕ) (p : Progress) (i : ℕ) (q : Progress) (x : List ℕ) : Type 0 where
   pub fits : i ≤ g.k
-  pub same : length x ≡ length x₀
   pub sane : Sane q
   pub ran : (zs : List ℕ) → length zs ≡ slots_length (layout_of g)
       → Ran (layout_of g) p (then_below (layout_of g) i (move_steps (layout_of g) (collection_at (layout_of g) x₀)) (images chips x₀ zs)) q (images chips x₀ zs) (images chips x zs)
 
-module _ (g : Geometry) (chips x₀ : List ℕ) (p : Progress) where
+module _ {g : Geometry} {chips x₀ : List ℕ} {p : Progress} where
   -- before the first place
   pub carried_none : Sane p → Carried g chips x₀ p 0 p x₀
   unfolding then_below
-  carried_none h = record { fits = omega arith; same = refl; sane = h; ran = λ zs e. ran_none (layout_of g) p (images chips x₀ zs) h }
+  carried_none h = record { fits = omega arith; sane = h; ran = λ zs e. ran_none (layout_of g) p (images chips x₀ zs) h }
 
-  module _ (i : ℕ) (q : Progress) (x : List ℕ) (w : Carried g chips x₀ p i q x) where
+  module _ {i : ℕ} {q : Progress} {x : List ℕ} (w : Carried g chips x₀ p i q x) where
     -- what is cut makes no move of the places after it
     pub carried_cut : q.cut ≡ true → (zs : List ℕ) → length zs ≡ slots_length (layout_of g)
         → Ran (layout_of g) p (then_below (layout_of g) g.k (move_steps (layout_of g) (collection_at (layout_of g) x₀)) (images chips x₀ zs)) q (images chips x₀ zs) (images chips x zs)
@@ -134,12 +133,11 @@ module _ (g : Geometry) (chips x₀ : List ℕ) (p : Progress) where
           (checked g h.chips_fit.limited t f, same)
 
       -- one place more
-      pub carried_more : (r : Progress) (y : List ℕ) → i < g.k → length y ≡ length x
+      pub carried_more : {r : Progress} {y : List ℕ} → i < g.k
           → ((zs : List ℕ) → Ran (layout_of g) q (move_steps (layout_of g) (collection_at (layout_of g) x) i (images chips x zs)) r (images chips x zs) (images chips y zs))
           → Carried g chips x₀ p (i + 1) r y
-      carried_more r y place same n = record {
+      carried_more {r} {y} place n = record {
         fits = omega arith;
-        same = same ∙ w.same;
         sane = (n []).sane;
         ran = λ zs e.
             ran_then_below (layout_of g) p q r (move_steps (layout_of g) (collection_at (layout_of g) x₀)) i (images chips x₀ zs) (images chips x zs) (images chips y zs)
@@ -148,7 +146,7 @@ module _ (g : Geometry) (chips x₀ : List ℕ) (p : Progress) where
 
 -- ---- the list of the end, by the phase that the code reads
 
-module _ (l : Layout) (s : Images) (t : CollectionRecord) (is : CollectionIs t (collection_at l s.records)) where
+module _ (l : Layout) (s : Images) {t : CollectionRecord} (is : CollectionIs t (collection_at l s.records)) where
   open l use {K}
 
   abbrev at_end : Collection

@@ -5,7 +5,7 @@ use mathlib.Core.Path.{◌≡◌}
 use mathlib.Core.Bool.{true, false}
 use mathlib.Core.List.{List, []}
 use lib.ListN.{length}
-use Rattle.ranges.specs.declared.Found.TheVariants.{At, Nothing}
+use Rattle.std.specs.Prelude.{Some, None}
 use Rattle.ranges.specs.Look.{when_found}
 use Rattle.layout.specs.declared.Geometry.{Geometry}
 use Rattle.layout.specs.Layout.{Layout, layout_of, no_chip}
@@ -37,7 +37,7 @@ ordered {g} {chips} {records} h {c} low = record { chips_fit = h.chips_fit; chip
 -- the destination is found of a block that can be collected
 module _ {g : Geometry} {x r : List ℕ} (h : Settled g x r) {c v d : ℕ} (chip : c ≤ g.n) (block : v < g.b)
     (can : collectable (layout_of g) c (page_at (layout_of g) x c) (record_at (layout_of g) r) v ≡ true)
-    (clean : lowest_clean_block (layout_of g) (page_at (layout_of g) x c) ≡ At d)
+    (clean : lowest_clean_block (layout_of g) (page_at (layout_of g) x c) ≡ Some d)
     {zs : List ℕ} (long : length zs ≡ slots_length (layout_of g)) {p q : Progress} {x₁ r₁ : List ℕ}
     (first : Ran (layout_of g) p (copy_steps (layout_of g) c (page_at (layout_of g) x c) (copy_feed (layout_of g) c (images x r zs)) (record_at (layout_of g) r) v d) q (images x r zs) (images x₁ r₁ zs)) where
   abbrev l : Layout
@@ -77,26 +77,26 @@ module _ {g : Geometry} {x r : List ℕ} (h : Settled g x r) {c v d : ℕ} (chip
 
 module _ (l : Layout) (s : Images) (c : ℕ) where
   -- with no destination nothing is stored
-  pub collect_nowhere : (v : ℕ) → lowest_clean_block l (page_at l s.chips c) ≡ Nothing → collect_block l c v s ≡ []
+  pub collect_nowhere : (v : ℕ) → lowest_clean_block l (page_at l s.chips c) ≡ None → collect_block l c v s ≡ []
   unfolding collect_block when_found
   collect_nowhere v clean = rw clean
 
   -- nor with no victim
-  pub collect_nothing : victim_of l c (page_at l s.chips c) (record_at l s.records) ≡ Nothing → collect_steps l c s ≡ []
+  pub collect_nothing : victim_of l c (page_at l s.chips c) (record_at l s.records) ≡ None → collect_steps l c s ≡ []
   unfolding collect_steps when_found
   collect_nothing victim = rw victim
 
   -- the collection of a chip is that of its victim
-  pub collect_found : {v : ℕ} → victim_of l c (page_at l s.chips c) (record_at l s.records) ≡ At v → collect_steps l c s ≡ collect_block l c v s
+  pub collect_found : {v : ℕ} → victim_of l c (page_at l s.chips c) (record_at l s.records) ≡ Some v → collect_steps l c s ≡ collect_block l c v s
   unfolding collect_steps when_found
   collect_found victim = rw victim
 
   -- a chip that has a place needs no collection
-  pub room_there : {p : ℕ} → place_of l (page_at l s.chips c) ≡ At p → room_steps l c s ≡ []
+  pub room_there : {p : ℕ} → place_of l (page_at l s.chips c) ≡ Some p → room_steps l c s ≡ []
   unfolding room_steps when_found
   room_there place = rw place
 
   -- one that has none does
-  pub room_collects : place_of l (page_at l s.chips c) ≡ Nothing → room_steps l c s ≡ collect_steps l c s
+  pub room_collects : place_of l (page_at l s.chips c) ≡ None → room_steps l c s ≡ collect_steps l c s
   unfolding room_steps when_found
   room_collects place = rw place

@@ -29,6 +29,6 @@ working_in g t co is f d =
     }
 
 -- so of images that have passed their checks
-pub working : (g : Geometry) (chips records : List ℕ) → Checked g no_chip chips records → (t : CollectionRecord)
+pub working : {g : Geometry} {chips records : List ℕ} → Checked g no_chip chips records → {t : CollectionRecord}
     → CollectionIs t (collection_at (layout_of g) records) → t.phase ≢ 0 → Working g t
-working g chips records h t is = working_in g t (collection_at (layout_of g) records) is (stripes g chips records h).collection
+working {g} {chips} {records} h {t} is = working_in g t (collection_at (layout_of g) records) is (stripes g chips records h).collection

@@ -25,8 +25,8 @@ use copying::copy_block;
 use device::{erase, store_collection, store_record};
 use layout::Geometry;
 use names::named_at;
-use ranges::Found;
 use space::{clean_block_on, place_on};
+use spares::phase::twin_place;
 use steps::Progress;
 
 // Number q where it was p.
@@ -59,20 +59,11 @@ fn is_due(chips: &[u8], records: &[u8], g: Geometry, co: CollectionRecord, q: us
         × (co.chip ≤ g.n) × (co.victim < g.b) × (q < pages (layout_of g)) }
     ensures { result ≡ due (layout_of g) (collection_at (layout_of g) records.now) (page_at (layout_of g) chips.now co.chip) (record_at (layout_of g) records.now) q }
 {
-    let k = g.k as usize;
-    let c = co.chip;
-    let t = spare_at(chips, g, c, q);
-    let p = t.copied;
-    let first = co.victim * k;
-    if (p < first) | (first + k <= p) {
-        return false;
+    let first = co.victim * g.k as usize;
+    match twin_place(chips, records, g, co.chip, co.victim, q) {
+        Some(i) => named_at(chips, records, g, co.chip, first + i),
+        None => false,
     }
-    let u = spare_at(chips, g, c, p);
-    named_at(chips, records, g, c, p)
-        & ((t.kind == u.kind)
-            & (t.member == u.member)
-            & (t.stripe == u.stripe)
-            & !named_at(chips, records, g, c, q))
 }
 
 // Place i of the destination: where it is due, its record gets the copy in place of the original.
@@ -117,14 +108,12 @@ fn move_all(
 {
     let k = g.k as usize;
     let mut run = p;
-    let mut i = 0;
-    while i < k {
+    for i in 0..k {
         // past a cut no store is made, and the images are not those that the next part is worked out from
         if run.cut {
             return run;
         }
         run = move_from(chips, records, g, co, i, run);
-        i += 1;
     }
     run
 }
@@ -143,16 +132,11 @@ fn end(
         result (images chips.old records.old zs) (images chips.new records.new zs) }
 {
     let erased = erase(chips, g, c, b, p);
-    let idle = CollectionRecord {
-        phase: 0,
-        chip: 0,
-        victim: 0,
-        destination: 0,
-    };
+    let idle = CollectionRecord::default();
     store_collection(records, g, idle, erased)
 }
 
-// Finishes the collection that the images are in, if any.
+// Finishes the collection that the images are in, if any. It is lent what it stores into: a view would ask its callers for the slots too.
 pub fn finish(chips: &mut [u8], records: &mut [u8], g: Geometry, p: Progress) -> Progress
     requires { Checked g no_chip chips.old records.old × Sane p }
     ensures { (zs : List ℕ) → length zs ≡ slots_length (layout_of g) → Ran (layout_of g) p
@@ -189,7 +173,7 @@ pub fn collect_chip(
         result (images chips.old records.old slots.now) (images chips.new records.new slots.now) }
 {
     match clean_block_on(chips, g, c) {
-        Found::At(d) => {
+        Some(d) => {
             let run = copy_block(chips, records, slots, work, g, c, v, d, p);
             // past a cut there is no phase 2 to finish
             if run.cut {
@@ -197,7 +181,7 @@ pub fn collect_chip(
             }
             finish(chips, records, g, run)
         }
-        Found::Nothing => p,
+        None => p,
     }
 }
 
@@ -209,7 +193,7 @@ pub fn make_room(
     work: &mut [u8],
     g: Geometry,
     c: usize,
-    v: Found,
+    v: Option<usize>,
     p: Progress,
 ) -> Progress
     requires { Settled g chips.old records.old × (c ≤ g.n) × VictimFor g chips.old records.old c v × Sane p
@@ -218,11 +202,11 @@ pub fn make_room(
         (room_steps (layout_of g) c (images chips.old records.old slots.now))
         result (images chips.old records.old slots.now) (images chips.new records.new slots.now) }
 {
-    if let Found::At(_) = place_on(chips, g, c) {
+    if let Some(_) = place_on(chips, g, c) {
         return p;
     }
     match v {
-        Found::At(b) => collect_chip(chips, records, slots, work, g, c, b, p),
-        Found::Nothing => p,
+        Some(b) => collect_chip(chips, records, slots, work, g, c, b, p),
+        None => p,
     }
 }

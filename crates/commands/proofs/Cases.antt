@@ -9,7 +9,9 @@ use lib.ListN.{length, get_or, drop, drop_of_length-le}
 use lib.Dec.{eqb, leb, ltb}
 use borrow.Author.Tests.{eqb-true, leb-true, ltb-true}
 use Rattle.ranges.proofs.Tests.{chain_all}
-use Rattle.commands.specs.Parsing.{other, digit_value, digit_count, numbered, alone, filled, byte_of, command, command_from, command_of}
+use Rattle.std.specs.Prelude.{None}
+use Rattle.commands.specs.declared.Act.TheVariants.{Write}
+use Rattle.commands.specs.Parsing.{digit_value, digit_count, numbered, alone, filled, act_alone, byte_of, number, command, command_from, command_of}
 
 module _ (line : List ℕ) (k : ℕ) where
   -- a space and one to five digits follow the letter
@@ -50,25 +52,25 @@ module _ (line : List ℕ) (k : ℕ) where
       }
 
   module _ (e : k ≡ digit_count (drop 2 line)) where
-    pub unnumbered : numbered line k ≡ false → command_of line ≡ other
+    pub unnumbered : numbered line k ≡ false → command_of line ≡ None
     unfolding command_of command_from
     unnumbered f = rw (← e, f)
 
-    pub number_alone : numbered line k ≡ true → alone line k ≡ true → command_of line ≡ command line k 0
+    pub number_alone : numbered line k ≡ true → alone line k ≡ true → command_of line ≡ command line k (act_alone (get_or line 0 0) (number line k))
     unfolding command_of command_from
     number_alone t u = rw (← e, t, u)
 
     pub number_and_byte : numbered line k ≡ true → alone line k ≡ false → filled line k ≡ true
-        → command_of line ≡ command line k (byte_of line k)
+        → command_of line ≡ command line k (Write (number line k) (byte_of line k))
     unfolding command_of command_from
     number_and_byte t f u = rw (← e, t, f, u)
 
-    pub neither_follows : numbered line k ≡ true → alone line k ≡ false → filled line k ≡ false → command_of line ≡ other
+    pub neither_follows : numbered line k ≡ true → alone line k ≡ false → filled line k ≡ false → command_of line ≡ None
     unfolding command_of command_from
     neither_follows t f g = rw (← e, t, f, g)
 
 -- a line without room for a digit
-pub short_line : (line : List ℕ) → length line < 2 → command_of line ≡ other
+pub short_line : (line : List ℕ) → length line < 2 → command_of line ≡ None
 unfolding digit_count
 short_line line h =
     let short : length line ≤ 2 = omega arith in

@@ -9,8 +9,10 @@ use lib.ListN.{length, get_or, drop}
 use lib.Dec.{eqb}
 use borrow.Author.Tests.{eq-eqb, lt-ltb, le-leb}
 use Rattle.commands.specs.declared.Command.{Command}
-use Rattle.commands.specs.Lines.{spelled, Decimal, line, asks, Gives, w_line, r_line, c_line, x_line}
-use Rattle.commands.specs.Parsing.{digit_value, digit_count, numbered, alone, filled, command, command_of}
+use Rattle.std.specs.Prelude.{Some}
+use Rattle.commands.specs.declared.Act.TheVariants.{Write}
+use Rattle.commands.specs.Lines.{spelled, value, Decimal, line, asks, Gives, w_line, r_line, c_line, x_line}
+use Rattle.commands.specs.Parsing.{digit_value, digit_count, numbered, alone, filled, act_alone, command_of}
 use Rattle.commands.proofs.Cases.{number_alone, number_and_byte}
 use Rattle.commands.proofs.Spelling.{read_back, count_spelled, value_spelled, at_rest, line_length}
 
@@ -33,15 +35,12 @@ module _ (ds : List ℕ) (dec : Decimal ds) where
   counted : (letter : ℕ) (rest : List ℕ) → digit_count rest ≡ 0 → length ds ≡ digit_count (drop 2 (line letter ds rest))
   counted letter rest e = sym (count_spelled rest ds dec.digits e)
 
-  asked : (letter : ℕ) (rest : List ℕ) (b : ℕ) → command (line letter ds rest) (length ds) b ≡ asks letter ds b
-  asked letter rest b = rw (value_spelled rest ds dec.digits)
-
-  takes_alone : (letter : ℕ) → plain letter ≡ true → command_of (line letter ds []) ≡ asks letter ds 0
+  takes_alone : (letter : ℕ) → plain letter ≡ true → command_of (line letter ds []) ≡ Some (asks ds (act_alone letter (value ds)))
   takes_alone letter p =
       let xs = line letter ds [] in
       let a : alone xs (length ds) ≡ true = rw (p, eq-eqb (length xs) (length ds + 2) (line_length letter ds [])) in
       number_alone xs (length ds) (counted letter [] nothing_ends) (is_numbered letter []) a
-      ∙ asked letter [] 0
+      ∙ ap (λ (n : ℕ). Some (asks ds (act_alone letter n))) (value_spelled [] ds dec.digits)
 
   module _ (high low : ℕ) (h : high < 16) (l : low < 16) where
     abbrev rest : List ℕ
@@ -62,15 +61,15 @@ module _ (ds : List ℕ) (dec : Decimal ds) where
         let n = eq-eqb (length xs) (length ds + 5) (line_length (code "w") ds rest) in
         rw (s, high_read, low_read, lt-ltb high 16 h, lt-ltb low 16 l, n)
 
-    takes_byte : command_of xs ≡ asks (code "w") ds (16 * high + low)
+    takes_byte : command_of xs ≡ Some (asks ds (Write (value ds) (16 * high + low)))
     takes_byte =
         number_and_byte xs (length ds) (counted (code "w") rest (space_ends (spelled high ∷ spelled low ∷ [])))
         (is_numbered (code "w") rest)
         refl
         is_filled
-        ∙ rw (high_read, low_read) (asked (code "w") rest (16 * high + low))
+        ∙ rw (high_read, low_read) (ap (λ (n : ℕ). Some (asks ds (Write n (16 * high + low)))) (value_spelled rest ds dec.digits))
 
-pub takes : (xs : List ℕ) (c : Command) → Gives xs c → command_of xs ≡ c
+pub takes : (xs : List ℕ) (c : Command) → Gives xs c → command_of xs ≡ Some c
 takes xs c (w_line ds high low dec h l) = takes_byte ds dec high low h l
 takes xs c (r_line ds dec) = takes_alone ds dec (code "r") refl
 takes xs c (c_line ds dec) = takes_alone ds dec (code "c") refl

@@ -3,7 +3,7 @@ use Prim.Native.Nat.{ℕ, ◌+◌, ◌≤◌}
 use Prim.Native.Char.{code}
 use native.Mathlib.Omega.{arith}
 use mathlib.Core.Path.{◌≡◌}
-use mathlib.Core.Logic.{◌≢◌}
+use Rattle.std.specs.Prelude.{Some}
 use mathlib.Core.List.{List, [], ◌∷◌}
 use lib.ListN.{length}
 use Rattle.commands.specs.declared.Command.{Command}
@@ -15,8 +15,8 @@ use Rattle.commands.proofs.Taken.{takes}
 
 -- A listed line is taken for the command that it gives, and a line that is taken for a command is listed with it.
 pub record TakesExactly : Type 0 where
-  pub listed_taken : (line : List ℕ) (c : Command) → Gives line c → command_of line ≡ c
-  pub taken_listed : (line : List ℕ) → (command_of line).letter ≢ 0 → Gives line (command_of line)
+  pub listed_taken : (line : List ℕ) (c : Command) → Gives line c → command_of line ≡ Some c
+  pub taken_listed : (line : List ℕ) (c : Command) → command_of line ≡ Some c → Gives line c
 
 pub takes_exactly : TakesExactly
 takes_exactly = record { listed_taken = takes; taken_listed = listed }
@@ -29,8 +29,8 @@ given_within line c (c_line ds dec) = omega (arith, line_length (code "c") ds []
 given_within line c (x_line ds dec) = omega (arith, line_length (code "x") ds [])
 
 -- letter and number of a command stand in its line
-pub number_within : (line : List ℕ) → (command_of line).letter ≢ 0 → (command_of line).digits + 2 ≤ length line
-number_within line h = given_within line (command_of line) (listed line h)
+pub number_within : (line : List ℕ) (c : Command) → command_of line ≡ Some c → c.digits + 2 ≤ length line
+number_within line c e = given_within line c (listed line c e)
 
 given_short : (line : List ℕ) (c : Command) → Gives line c → length line ≤ 10
 given_short line c (w_line ds high low dec h l) =
@@ -40,5 +40,5 @@ given_short line c (c_line ds dec) = omega (arith, dec.few, line_length (code "c
 given_short line c (x_line ds dec) = omega (arith, dec.few, line_length (code "x") ds [])
 
 -- no command has as many as eleven bytes, so a reader may stop there
-pub command_short : (line : List ℕ) → (command_of line).letter ≢ 0 → length line ≤ 10
-command_short line h = given_short line (command_of line) (listed line h)
+pub command_short : (line : List ℕ) (c : Command) → command_of line ≡ Some c → length line ≤ 10
+command_short line c e = given_short line c (listed line c e)

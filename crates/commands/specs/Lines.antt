@@ -1,6 +1,8 @@
 -- The lines that document 01 lists in "Bags on the pan", spelled out, each with the command that it gives.
 use Rattle.std.specs.Prelude.{ℕ, ◌+◌, ◌-◌, ◌*◌, ◌^◌, ◌≤◌, ◌<◌, cond, List, [], ◌∷◌, ◌++◌, map, length, get_or, ltb}
 use Prim.Native.Char.{code}
+use Rattle.commands.specs.declared.Act.{Act}
+use Rattle.commands.specs.declared.Act.TheVariants.{Write, Read, Commit, Lose}
 use Rattle.commands.specs.declared.Command.{Command}
 
 -- a digit as a byte: 0 to 9, then a to f
@@ -22,18 +24,18 @@ pub record Decimal (ds : List ℕ) : Type 0 where
 abbrev pub line : ℕ → List ℕ → List ℕ → List ℕ
 line letter ds rest = letter ∷ code " " ∷ (map spelled ds ++ rest)
 
--- the command for a letter, a number and a byte
-abbrev pub asks : ℕ → List ℕ → ℕ → Command
-asks letter ds b = record { letter = letter; digits = length ds; number = value ds; byte = b }
+-- the command with a number of these digits
+abbrev pub asks : List ℕ → Act → Command
+asks ds act = record { digits = length ds; act = act }
 
 -- the lines, and what each gives
 pub data Gives : List ℕ → Command → Type 0 where
   -- "`w` page byte (fills a page)"; "bytes two lower-case hexadecimal digits"
   w_line : (ds : List ℕ) (high low : ℕ) → Decimal ds → high < 16 → low < 16
-      → Gives (line (code "w") ds (code " " ∷ spelled high ∷ spelled low ∷ [])) (asks (code "w") ds (16 * high + low))
+      → Gives (line (code "w") ds (code " " ∷ spelled high ∷ spelled low ∷ [])) (asks ds (Write (value ds) (16 * high + low)))
   -- "`r` page"
-  r_line : (ds : List ℕ) → Decimal ds → Gives (line (code "r") ds []) (asks (code "r") ds 0)
+  r_line : (ds : List ℕ) → Decimal ds → Gives (line (code "r") ds []) (asks ds (Read (value ds)))
   -- "`c` stripe"
-  c_line : (ds : List ℕ) → Decimal ds → Gives (line (code "c") ds []) (asks (code "c") ds 0)
+  c_line : (ds : List ℕ) → Decimal ds → Gives (line (code "c") ds []) (asks ds (Commit (value ds)))
   -- "`x` chip (lost from here)"
-  x_line : (ds : List ℕ) → Decimal ds → Gives (line (code "x") ds []) (asks (code "x") ds 0)
+  x_line : (ds : List ℕ) → Decimal ds → Gives (line (code "x") ds []) (asks ds (Lose (value ds)))

@@ -1,11 +1,9 @@
 -- The command of a line, by document 01, "Bags on the pan". A line is a list of bytes, without its newline.
-use Rattle.std.specs.Prelude.{ℕ, zero, suc, ◌+◌, ◌-◌, ◌*◌, Bool, cond, ◌&&◌, ◌||◌, List, [], ◌∷◌, length, get_or, drop, ltb, leb, eqb}
+use Rattle.std.specs.Prelude.{ℕ, zero, suc, ◌+◌, ◌-◌, ◌*◌, Bool, cond, ◌&&◌, ◌||◌, List, [], ◌∷◌, length, get_or, drop, ltb, leb, eqb, Option, Some, None}
 use Prim.Native.Char.{code}
+use Rattle.commands.specs.declared.Act.{Act}
+use Rattle.commands.specs.declared.Act.TheVariants.{Write, Read, Commit, Lose}
 use Rattle.commands.specs.declared.Command.{Command}
-
--- "any other line ends it"
-abbrev pub other : Command
-other = record { letter = 0; digits = 0; number = 0; byte = 0 }
 
 -- the value of a digit, "decimal" or "lower-case hexadecimal", and 16 for any other byte
 unfoldable pub digit_value : ℕ → ℕ
@@ -23,6 +21,10 @@ digit_count (b ∷ bs) = cond (ltb (digit_value b) 10) (suc (digit_count bs)) 0
 unfoldable pub decimal_value : List ℕ → ℕ → ℕ
 decimal_value bs zero = 0
 decimal_value bs (suc k) = decimal_value bs k * 10 + digit_value (get_or bs k 0)
+
+-- what `r`, `c` and `x` ask for: a read, a commit or the loss of a chip
+abbrev pub act_alone : ℕ → ℕ → Act
+act_alone letter n = cond (eqb letter (code "r")) (Read n) (cond (eqb letter (code "c")) (Commit n) (Lose n))
 
 module _ (line : List ℕ) (k : ℕ) where
   -- a space and a number of k digits follow the letter: "decimal of at most five digits"
@@ -48,17 +50,21 @@ module _ (line : List ℕ) (k : ℕ) where
   abbrev pub byte_of : ℕ
   byte_of = 16 * digit_value (get_or line (k + 3) 0) + digit_value (get_or line (k + 4) 0)
 
-  -- the command with the line's letter and its number of k digits
-  abbrev pub command : ℕ → Command
-  command b = record { letter = get_or line 0 0; digits = k; number = decimal_value (drop 2 line) k; byte = b }
+  -- the number itself
+  abbrev pub number : ℕ
+  number = decimal_value (drop 2 line) k
 
-  -- the command of a line with k decimal digits from offset 2 on
-  unfoldable pub command_from : Command
+  -- the command with a number of k digits
+  abbrev pub command : Act → Option Command
+  command act = Some (record { digits = k; act = act })
+
+  -- the command of a line with k decimal digits from offset 2 on; "any other line ends it"
+  unfoldable pub command_from : Option Command
   command_from =
       cond numbered
-      (cond alone (command 0)
-      (cond filled (command byte_of) other))
-      other
+      (cond alone (command (act_alone (get_or line 0 0) number))
+      (cond filled (command (Write number byte_of)) None))
+      None
 
-unfoldable pub command_of : List ℕ → Command
+unfoldable pub command_of : List ℕ → Option Command
 command_of line = command_from line (digit_count (drop 2 line))

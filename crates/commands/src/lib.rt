@@ -3,36 +3,26 @@
 #![tactic(auto)]
 
 ghost use Rattle.std.specs.Prelude.{◌≡◌, ◌+◌, ◌*◌, ◌≤◌, ◌<◌, get_or};
-ghost use Rattle.commands.specs.Parsing.{other, digit_value, digit_count, decimal_value, numbered, alone, filled, command_of};
+ghost use Rattle.commands.specs.Parsing.{digit_value, digit_count, decimal_value, numbered, alone, filled, act_alone, command_of};
+
+// What a line asks for.
+#[derive(Clone, Copy)]
+pub enum Act {
+    // w: fills the page with the byte
+    Write { page: u64, byte: u8 },
+    // r
+    Read { page: u64 },
+    // c
+    Commit { stripe: u64 },
+    // x: the chip is lost from here
+    Lose { chip: u64 },
+}
 
 #[derive(Clone, Copy)]
 pub struct Command {
-    // w, r, c or x; 0 for any other line
-    pub letter: u8,
     // of the number as given: the line's first 2 + digits bytes are letter and number
     pub digits: usize,
-    // the page, the stripe or the chip
-    pub number: u64,
-    // what w fills the page with; else 0
-    pub byte: u8,
-}
-
-// What any other line comes to.
-fn no_command() -> Command
-    ensures { result ≡ other }
-{
-    Command {
-        letter: 0,
-        digits: 0,
-        number: 0,
-        byte: 0,
-    }
-}
-
-fn wide(b: u8) -> u64
-    ensures { result ≡ b }
-{
-    b as u64
+    pub act: Act,
 }
 
 // The byte at offset i, and 0 past the end.
@@ -59,14 +49,12 @@ fn digit_value(b: u8) -> u8
 fn digit_count(s: &[u8]) -> usize
     ensures { result ≡ digit_count s.now }
 {
-    let mut i = 0;
-    while i < s.len() {
-        if 10 <= digit_value(s[i]) {
+    for (i, b) in s.iter().enumerate() {
+        if 10 <= digit_value(*b) {
             return i;
         }
-        i += 1;
     }
-    i
+    s.len()
 }
 
 // The number that the first k digits spell.
@@ -76,7 +64,7 @@ fn decimal_value(s: &[u8], k: usize) -> u64
 {
     let mut n = 0;
     for i in 0..k {
-        n = n * 10 + wide(digit_value(byte_at(s, i)));
+        n = n * 10 + u64::from(digit_value(byte_at(s, i)));
     }
     n
 }
@@ -117,35 +105,37 @@ fn byte_value(high: u8, low: u8) -> u8
     16 * digit_value(high) + digit_value(low)
 }
 
-// The command of a line, which stands without its newline.
-pub fn parse(line: &[u8]) -> Command
+// What a letter asks for that takes a number alone.
+fn act_alone(letter: u8, number: u64) -> Act
+    ensures { result ≡ act_alone letter number }
+{
+    match letter {
+        b'r' => Act::Read { page: number },
+        b'c' => Act::Commit { stripe: number },
+        _ => Act::Lose { chip: number },
+    }
+}
+
+// The command of a line, which stands without its newline; none where it is any other line.
+pub fn parse(line: &[u8]) -> Option<Command>
     ensures { result ≡ command_of line.now }
 {
     if line.len() < 2 {
-        return no_command();
+        return None;
     }
     let digits = digit_count(&line[2..]);
     if !is_numbered(line, digits) {
-        return no_command();
+        return None;
     }
-    let letter = byte_at(line, 0);
     let number = decimal_value(&line[2..], digits);
     if is_alone(line, digits) {
-        return Command {
-            letter,
-            digits,
-            number,
-            byte: 0,
-        };
+        let act = act_alone(byte_at(line, 0), number);
+        return Some(Command { digits, act });
     }
     if is_filled(line, digits) {
         let byte = byte_value(byte_at(line, digits + 3), byte_at(line, digits + 4));
-        return Command {
-            letter,
-            digits,
-            number,
-            byte,
-        };
+        let act = Act::Write { page: number, byte };
+        return Some(Command { digits, act });
     }
-    no_command()
+    None
 }

@@ -5,8 +5,7 @@ use mathlib.Core.Path.{◌≡◌, ◌∙◌}
 use mathlib.Core.Bool.{true, false}
 use mathlib.Core.List.{List}
 use lib.ListN.{get_or}
-use Rattle.ranges.specs.declared.Found.{Found}
-use Rattle.ranges.specs.declared.Found.TheVariants.{At, Nothing}
+use Rattle.std.specs.Prelude.{Option, Some, None}
 use Rattle.ranges.specs.Look.{when_found, found_in}
 use Rattle.layout.specs.declared.Geometry.{Geometry}
 use Rattle.layout.specs.Layout.{Layout, layout_of, pages}
@@ -59,7 +58,7 @@ module _ {g : Geometry} {x r : List ℕ} (h : Settled g x r) where
   record_passes {j} low = record_pass l (record_at l r j) ((stripes g x r h.checked).stripe j low)
 
   -- a place that is found is a page of the chip
-  pub place_fits : {c k : ℕ} → c ≤ g.n → place_of l (page_at l x c) ≡ At k → k < pages l
+  pub place_fits : {c k : ℕ} → c ≤ g.n → place_of l (page_at l x c) ≡ Some k → k < pages l
   place_fits {c} {k} chip found =
       let o = place_at l u.within (record_at l r) (page_at l x c) c (collection_at l r) (chip_is_sound g x r h.checked c chip) (rest_collects (collection_at l r) c h.at_rest) k found in
       rw o.is (page_in_fits l o.block o.place o.fillable.block o.fillable.place)
@@ -102,11 +101,11 @@ module _ {g : Geometry} {x r : List ℕ} (h : Settled g x r) where
         placed_cut cut = ran_then_cut l p q (room_steps l c s) (at_place l c fill) s t first cut
 
         -- what is done at the place
-        pub placed_at : {k : ℕ} → place_of l (page_at l x₁ c) ≡ At k → {w : Progress} {v : Images} → Ran l q (fill k t) w t v → Ran l p (placed l c fill s) w s v
+        pub placed_at : {k : ℕ} → place_of l (page_at l x₁ c) ≡ Some k → {w : Progress} {v : Images} → Ran l q (fill k t) w t v → Ran l p (placed l c fill s) w s v
         unfolding placed at_place when_found
         placed_at found {w} {v} second = ran_then l p q w (room_steps l c s) (at_place l c fill) s t v first (rw found second)
 
-        pub placed_nowhere : place_of l (page_at l x₁ c) ≡ Nothing → Ran l p (placed l c fill s) q s t
+        pub placed_nowhere : place_of l (page_at l x₁ c) ≡ None → Ran l p (placed l c fill s) q s t
         unfolding placed at_place when_found
         placed_nowhere found = ran_then l p q q (room_steps l c s) (at_place l c fill) s t t first (rw found (ran_none l q t first.sane))
 
@@ -115,6 +114,6 @@ pub placed_on : (l : Layout) {c d : ℕ} → c ≡ d → (fill : ℕ → Images 
 placed_on l e fill h = rw e at h
 
 -- the victim of a chip, which may have another name, is known
-pub known_victim : {g : Geometry} {x r : List ℕ} {scans : List ChipScan} {c d : ℕ} {v : Found} → Victims g x r scans → c ≤ g.n → c ≡ d
+pub known_victim : {g : Geometry} {x r : List ℕ} {scans : List ChipScan} {c d : ℕ} {v : Option ℕ} → Victims g x r scans → c ≤ g.n → c ≡ d
     → v ≡ found_in (get_or scans c unscanned).victim → VictimFor g x r d v
 known_victim {c = c} h low same e = rw (← same) (record { is = λ _. e ∙ h.at c low })

@@ -16,7 +16,6 @@ use codec::parity_chip;
 use collect::make_room;
 use layout::Geometry;
 use parity::commit_at;
-use ranges::Found;
 use space::place_on;
 use steps::Progress;
 
@@ -28,7 +27,7 @@ pub fn commit_stripe(
     work: &mut [u8],
     g: Geometry,
     j: usize,
-    v: Found,
+    v: Option<usize>,
     p: Progress,
 ) -> Progress
     requires { Settled g chips.old records.old × SlotsFit g slots.now × (length work.old ≡ g.w) × (j < g.s) × Sane p
@@ -43,7 +42,7 @@ pub fn commit_stripe(
         return run;
     }
     match place_on(chips, g, c) {
-        Found::At(q) => commit_at(chips, records, slots, work, g, j, q, run),
-        Found::Nothing => run,
+        Some(q) => commit_at(chips, records, slots, work, g, j, q, run),
+        None => run,
     }
 }

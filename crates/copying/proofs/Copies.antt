@@ -2,16 +2,16 @@
 use Prim.Native.Nat.{ℕ, suc, ◌+◌, ◌*◌, ◌≤◌, ◌<◌}
 use native.Mathlib.Numerals.{add-one}
 use native.Mathlib.Omega.{arith}
-use mathlib.Core.Path.{◌≡◌, refl, sym, ap, ◌∙◌}
+use mathlib.Core.Path.{◌≡◌, sym, ap, ◌∙◌}
 use mathlib.Core.Bool.{true, false}
 use mathlib.Core.List.{List, [], ◌∷◌, ◌++◌}
 use lib.ListN.{length, replicate}
 use Rattle.octets.proofs.Xors.{xors_zeros_l}
-use Rattle.ranges.specs.declared.Found.TheVariants.{At}
+use Rattle.std.specs.Prelude.{Some}
 use Rattle.ranges.specs.Look.{count_below}
 use Rattle.ranges.proofs.Counts.{count_pass, count_fail, count_start, count_le}
 use Rattle.layout.specs.declared.Geometry.{Geometry}
-use Rattle.layout.specs.Layout.{Layout, layout_of, no_chip, pages, page_in}
+use Rattle.layout.specs.Layout.{Layout, layout_of, no_chip, none, pages, page_in}
 use Rattle.layout.specs.Page.{Page, page_at}
 use Rattle.layout.specs.Record.{record_at}
 use Rattle.layout.specs.Collection.{collection_at}
@@ -84,7 +84,6 @@ copies_below g c v d i s = steps_below i (copy_from (layout_of g) c (page_at (la
 -- they have brought the progress p and the chips x₀ to q and x, and so many are made
 pub record Copying (g : Geometry) (records x₀ : List ℕ) (c v d : ℕ) (p : Progress) (i copies : ℕ) (q : Progress) (x : List ℕ) : Type 0 where
   pub fits : i ≤ g.k
-  pub same : length x ≡ length x₀
   pub sane : Sane q
   pub counted : copies ≡ count_below i (named_in (layout_of g) (record_at (layout_of g) records) c v)
   pub ran : (zs : List ℕ) → Ran (layout_of g) p (copies_below g c v d i (images x₀ records zs)) q (images x₀ records zs) (images x records zs)
@@ -95,7 +94,6 @@ module _ {g : Geometry} {records x₀ : List ℕ} {c v d : ℕ} {p : Progress} w
   unfolding steps_below
   copying_none h = record {
     fits = omega arith;
-    same = refl;
     sane = h;
     counted = sym (count_start (named_in (layout_of g) (record_at (layout_of g) records) c v));
     ran = λ zs. ran_none (layout_of g) p (images x₀ records zs) h;
@@ -114,7 +112,6 @@ module _ {g : Geometry} {records x₀ : List ℕ} {c v d : ℕ} {p : Progress} w
         let is_named = named_in l (record_at l records) c v in
         record {
           fits = omega arith;
-          same = w.same;
           sane = w.sane;
           counted = rw (add-one, count_fail i is_named n) w.counted;
           ran = λ zs.
@@ -126,18 +123,17 @@ module _ {g : Geometry} {records x₀ : List ℕ} {c v d : ℕ} {p : Progress} w
     -- it is, and its page, which is still there, is copied
     pub copying_more : named_in (layout_of g) (record_at (layout_of g) records) c v i ≡ true
         → page_at (layout_of g) x c (page_in (layout_of g) v i) ≡ page_at (layout_of g) x₀ c (page_in (layout_of g) v i)
-        → {r : Progress} {y : List ℕ} → length y ≡ length x
+        → {r : Progress} {y : List ℕ}
         → ((rs zs : List ℕ) → Ran (layout_of g) q
         (fed (as_stands (page_at (layout_of g) x c) (v * g.k + i)) (λ xs. program c (d * g.k + copies) (copy_of (layout_of g) (v * g.k + i) (page_at (layout_of g) x c (v * g.k + i)) xs)) ∷ [])
         r (images x rs zs) (images y rs zs))
         → Copying g records x₀ c v d p (i + 1) (copies + 1) r y
     unfolding copy_from
-    copying_more n still {r} {y} long h =
+    copying_more n still {r} {y} h =
         let l = layout_of g in
         let is_named = named_in l (record_at l records) c v in
         record {
           fits = omega arith;
-          same = long ∙ w.same;
           sane = (h [] []).sane;
           counted = rw (add-one, add-one, count_pass i is_named n) (ap suc w.counted);
           ran = λ zs.
@@ -146,107 +142,112 @@ module _ {g : Geometry} {records x₀ : List ℕ} {c v d : ℕ} {p : Progress} w
               (w.ran zs) (rw (n, ← w.counted, ← still) (h records zs));
         }
 
--- the records r₀ are to get phase 1, and have come to r₁
-pub record Begun (g : Geometry) (x₀ r₀ r₁ : List ℕ) (c v d : ℕ) (p p₁ : Progress) : Type 0 where
+-- the records r₀ are to get phase 1, and have come to r₁; zs are the slots
+pub record Begun (g : Geometry) (x₀ r₀ r₁ zs : List ℕ) (c v d : ℕ) (p p₁ : Progress) : Type 0 where
   pub settled : Settled g x₀ r₀
+  pub slots : length zs ≡ slots_length (layout_of g)
   pub chip : c ≤ g.n
   pub block : v < g.b
   pub can : collectable (layout_of g) c (page_at (layout_of g) x₀ c) (record_at (layout_of g) r₀) v ≡ true
-  pub clean : lowest_clean_block (layout_of g) (page_at (layout_of g) x₀ c) ≡ At d
+  pub clean : lowest_clean_block (layout_of g) (page_at (layout_of g) x₀ c) ≡ Some d
   pub first : (cs zs : List ℕ) → Ran (layout_of g) p (plain (collection (phase 1 c v d)) ∷ []) p₁ (images cs r₀ zs) (images cs r₁ zs)
 
-module _ {g : Geometry} {x₀ r₀ r₁ : List ℕ} {c v d : ℕ} {p p₁ : Progress} (b : Begun g x₀ r₀ r₁ c v d p p₁) where
+module _ {g : Geometry} {x₀ r₀ r₁ zs : List ℕ} {c v d : ℕ} {p p₁ : Progress} (b : Begun g x₀ r₀ r₁ zs c v d p p₁) where
   abbrev l : Layout
   l = layout_of g
 
   u : Usable l
   u = usable g x₀ r₀ b.settled.checked
 
-  -- any slots of their length
-  module _ (zs : List ℕ) (e : length zs ≡ slots_length l) where
-    abbrev s : Images
-    s = images x₀ r₀ zs
+  abbrev s : Images
+  s = images x₀ r₀ zs
 
-    f : Sound l s
-    f = sound g x₀ r₀ b.settled.checked zs e
+  f : Sound l s
+  f = sound g x₀ r₀ b.settled.checked zs b.slots
 
-    pub chosen : Chosen l s c v d
-    chosen = chosen_on l u s f b.settled.at_rest c (omega (arith, b.chip)) v d b.block b.can b.clean
+  chosen : Chosen l s c v d
+  chosen = chosen_on l u s f b.settled.at_rest c (omega (arith, b.chip)) v d b.block b.can b.clean
 
-    -- the list of the first half, as the code comes to it
-    copies_then : and_then l (plain (collection (phase 1 c v d)) ∷ []) (λ t. copies_below g c v d g.k t ++ (plain (collection (phase 2 c v d)) ∷ [])) s
-        ≡ copy_steps l c (page_at l x₀ c) (copy_feed l c s) (record_at l r₀) v d
-    unfolding and_then copy_steps apply_all apply
-    copies_then = rw (copies_as_stand l u s f c v d chosen, (begun l u s f c v d chosen).records)
+  -- the list of the first half, as the code comes to it
+  copies_then : and_then l (plain (collection (phase 1 c v d)) ∷ []) (λ t. copies_below g c v d g.k t ++ (plain (collection (phase 2 c v d)) ∷ [])) s
+      ≡ copy_steps l c (page_at l x₀ c) (copy_feed l c s) (record_at l r₀) v d
+  unfolding and_then copy_steps apply_all apply
+  copies_then = rw (copies_as_stand l u s f c v d chosen, (begun l u s f c v d chosen).records)
 
-    module _ {i copies : ℕ} {q : Progress} {x : List ℕ} (w : Copying g r₁ x₀ c v d p₁ i copies q x) where
-      -- what is cut is that list as far as it goes
-      pub copying_cut : q.cut ≡ true → Ran l p (copy_steps l c (page_at l x₀ c) (copy_feed l c s) (record_at l r₀) v d) q s (images x r₁ zs)
-      copying_cut cut =
-          rw (← copies_then)
-          (ran_then l p p₁ q (plain (collection (phase 1 c v d)) ∷ []) (λ t. copies_below g c v d g.k t ++ (plain (collection (phase 2 c v d)) ∷ [])) s (images x₀ r₁ zs) (images x r₁ zs)
-          (b.first x₀ zs)
-          (ran_longer l p₁ q (copies_below g c v d g.k (images x₀ r₁ zs)) (plain (collection (phase 2 c v d)) ∷ []) (images x₀ r₁ zs) (images x r₁ zs)
-          (ran_below_cut l p₁ q (copy_from l c (page_at l x₀ c) (as_stands (page_at l x₀ c)) (record_at l r₁) v d) i g.k (images x₀ r₁ zs) (images x r₁ zs) w.fits cut (w.ran zs)) cut))
+  module _ {i copies : ℕ} {q : Progress} {x : List ℕ} (w : Copying g r₁ x₀ c v d p₁ i copies q x) where
+    -- what is cut is that list as far as it goes
+    pub copying_cut : q.cut ≡ true → Ran l p (copy_steps l c (page_at l x₀ c) (copy_feed l c s) (record_at l r₀) v d) q s (images x r₁ zs)
+    copying_cut cut =
+        rw (← copies_then)
+        (ran_then l p p₁ q (plain (collection (phase 1 c v d)) ∷ []) (λ t. copies_below g c v d g.k t ++ (plain (collection (phase 2 c v d)) ∷ [])) s (images x₀ r₁ zs) (images x r₁ zs)
+        (b.first x₀ zs)
+        (ran_longer l p₁ q (copies_below g c v d g.k (images x₀ r₁ zs)) (plain (collection (phase 2 c v d)) ∷ []) (images x₀ r₁ zs) (images x r₁ zs)
+        (ran_below_cut l p₁ q (copy_from l c (page_at l x₀ c) (as_stands (page_at l x₀ c)) (record_at l r₁) v d) i g.k (images x₀ r₁ zs) (images x r₁ zs) w.fits cut (w.ran zs)) cut))
 
-      -- all copies are made and phase 2 is stored
-      pub copying_all : g.k ≤ i → {r : Progress} {r₂ : List ℕ} → Ran l q (plain (collection (phase 2 c v d)) ∷ []) r (images x r₁ zs) (images x r₂ zs)
-          → Ran l p (copy_steps l c (page_at l x₀ c) (copy_feed l c s) (record_at l r₀) v d) r s (images x r₂ zs)
-      copying_all past {r} {r₂} last =
-          let all : i ≡ g.k = omega (arith, w.fits) in
-          rw (← copies_then)
-          (ran_then l p p₁ r (plain (collection (phase 1 c v d)) ∷ []) (λ t. copies_below g c v d g.k t ++ (plain (collection (phase 2 c v d)) ∷ [])) s (images x₀ r₁ zs) (images x r₂ zs)
-          (b.first x₀ zs)
-          (ran_append l p₁ q r (copies_below g c v d g.k (images x₀ r₁ zs)) (plain (collection (phase 2 c v d)) ∷ []) (images x₀ r₁ zs) (images x r₁ zs) (images x r₂ zs)
-          (rw all at (w.ran zs)) last))
+    -- all copies are made and phase 2 is stored
+    pub copying_all : g.k ≤ i → {r : Progress} {r₂ : List ℕ} → Ran l q (plain (collection (phase 2 c v d)) ∷ []) r (images x r₁ zs) (images x r₂ zs)
+        → Ran l p (copy_steps l c (page_at l x₀ c) (copy_feed l c s) (record_at l r₀) v d) r s (images x r₂ zs)
+    copying_all past {r} {r₂} last =
+        let all : i ≡ g.k = omega (arith, w.fits) in
+        rw (← copies_then)
+        (ran_then l p p₁ r (plain (collection (phase 1 c v d)) ∷ []) (λ t. copies_below g c v d g.k t ++ (plain (collection (phase 2 c v d)) ∷ [])) s (images x₀ r₁ zs) (images x r₂ zs)
+        (b.first x₀ zs)
+        (ran_append l p₁ q r (copies_below g c v d g.k (images x₀ r₁ zs)) (plain (collection (phase 2 c v d)) ∷ []) (images x₀ r₁ zs) (images x r₁ zs) (images x r₂ zs)
+        (rw all at (w.ran zs)) last))
 
-      -- while the call is not cut
-      module _ (going : q.cut ≡ false) where
-        begun_is : images x₀ r₁ zs ≡ apply l (collection (phase 1 c v d)) s
-        unfolding apply_all
-        begun_is =
-            ran_whole l p p₁ (plain (collection (phase 1 c v d)) ∷ []) s (images x₀ r₁ zs) (b.first x₀ zs)
-            (ran_going l p₁ q (copies_below g c v d i (images x₀ r₁ zs)) (images x₀ r₁ zs) (images x r₁ zs) (w.ran zs) going)
+    -- the page of place i and that of the next copy are pages of the chip
+    pub copying_places : i < g.k → (v * g.k + i < pages l) × (d * g.k + copies < pages l) × (pages l ≤ 65535)
+    unfolding none
+    copying_places low =
+        (page_in_fits l v i chosen.victim low, page_in_fits l d copies chosen.destination (copying_room w low), u.within.pages_numbered)
 
-        now_is : images x r₁ zs ≡ apply_all l (steps_below i (copy_from l c (page_at l x₀ c) (as_stands (page_at l x₀ c)) (record_at l r₀) v d)) (apply l (collection (phase 1 c v d)) s)
-        now_is =
-            let same : record_at l r₁ ≡ record_at l r₀ = ap (λ (t : Images). record_at l t.records) begun_is ∙ (begun l u s f c v d chosen).records in
-            rw (← begun_is, ← same)
-            (ran_whole l p₁ q (copies_below g c v d i (images x₀ r₁ zs)) (images x₀ r₁ zs) (images x r₁ zs) (w.ran zs) going)
+    -- while the call is not cut
+    module _ (going : q.cut ≡ false) where
+      begun_is : images x₀ r₁ zs ≡ apply l (collection (phase 1 c v d)) s
+      unfolding apply_all
+      begun_is =
+          ran_whole l p p₁ (plain (collection (phase 1 c v d)) ∷ []) s (images x₀ r₁ zs) (b.first x₀ zs)
+          (ran_going l p₁ q (copies_below g c v d i (images x₀ r₁ zs)) (images x₀ r₁ zs) (images x r₁ zs) (w.ran zs) going)
 
-        state : Sound l (images x r₁ zs) × Copied l s c v d i (images x r₁ zs)
-        state =
-            rw now_is
-            (leads_weaken l (Kept l) (Kept l) (Copied l s c v d i) (λ t. Sound l t × Copied l s c v d i t)
-            (steps_below i (copy_from l c (page_at l x₀ c) (as_stands (page_at l x₀ c)) (record_at l r₀) v d)) (apply l (collection (phase 1 c v d)) s) (λ t k. k) (λ t k m. (k.sound, m))
-            (copies_below_lem l u s f c v d chosen i w.fits)).ends
+      now_is : images x r₁ zs ≡ apply_all l (steps_below i (copy_from l c (page_at l x₀ c) (as_stands (page_at l x₀ c)) (record_at l r₀) v d)) (apply l (collection (phase 1 c v d)) s)
+      now_is =
+          let same : record_at l r₁ ≡ record_at l r₀ = ap (λ (t : Images). record_at l t.records) begun_is ∙ (begun l u s f c v d chosen).records in
+          rw (← begun_is, ← same)
+          (ran_whole l p₁ q (copies_below g c v d i (images x₀ r₁ zs)) (images x₀ r₁ zs) (images x r₁ zs) (w.ran zs) going)
 
-        pub copying_stamps : StampsPass g x r₁ c
-        copying_stamps = stamps_pass g x r₁ (checked g b.settled.checked.chips_fit.limited (images x r₁ zs) state.0) c b.chip
+      state : Sound l (images x r₁ zs) × Copied l s c v d i (images x r₁ zs)
+      state =
+          rw now_is
+          (leads_weaken l (Kept l) (Kept l) (Copied l s c v d i) (λ t. Sound l t × Copied l s c v d i t)
+          (steps_below i (copy_from l c (page_at l x₀ c) (as_stands (page_at l x₀ c)) (record_at l r₀) v d)) (apply l (collection (phase 1 c v d)) s) (λ t k. k) (λ t k m. (k.sound, m))
+          (copies_below_lem l u s f c v d chosen i w.fits)).ends
 
-        -- a page of the victim that is named may be copied
-        pub copying_page : (k : ℕ) → k < g.k → named_in l (record_at l r₁) c v k ≡ true → Copyable l x r₁ c (page_in l v k)
-        copying_page k place n =
-            let t = state.0 in
-            let r = record_at l r₁ in
-            let here = sound_chip l u (images x r₁ zs) t c (omega (arith, b.chip)) in
-            let is_page_lem = page_number_lem l u.within (page_in l v k) (page_in_fits l v k chosen.victim place) in
-            let (j, low, names_it) = named_by l r c (page_in l v k) n in
-            let stripe = (name_stamped l r (page_at l x c) c (collection_at l r₁) here (page_in l v k) j low is_page_lem names_it).stripe in
-            record {
-              stripe = rw stripe low;
-              sound = rw stripe (record_pass l (r j) (t.stripes.stripe j low));
-              named = rw stripe names_it;
-            }
+      pub copying_stamps : StampsPass g x r₁ c
+      copying_stamps = stamps_pass g x r₁ (checked g b.settled.checked.chips_fit.limited (images x r₁ zs) state.0) c b.chip
 
-        -- it is copied as it stands
-        pub copying_stands : (k : ℕ) → k < g.k → named_in l (record_at l r₁) c v k ≡ true → {to : ℕ} {r : Progress} {y : List ℕ}
-            → ((rs ws : List ℕ) → Ran l q (fed (copy_feed l c (images x r₁ zs) (v * g.k + k)) (λ xs. program c to (copy_of l (v * g.k + k) (page_at l x c (v * g.k + k)) xs)) ∷ []) r (images x rs ws) (images y rs ws))
-            → (rs ws : List ℕ) → Ran l q (fed (as_stands (page_at l x c) (v * g.k + k)) (λ xs. program c to (copy_of l (v * g.k + k) (page_at l x c (v * g.k + k)) xs)) ∷ []) r (images x rs ws) (images y rs ws)
-        copying_stands k place n h rs ws =
-            rw (copied_as_stands l u (images x r₁ zs) state.0 c (omega (arith, b.chip)) (page_in l v k) (page_number_lem l u.within (page_in l v k) (page_in_fits l v k chosen.victim place)) n) at (h rs ws)
+      -- a page of the victim that is named may be copied
+      pub copying_page : (k : ℕ) → k < g.k → named_in l (record_at l r₁) c v k ≡ true → Copyable l x r₁ c (page_in l v k)
+      copying_page k place n =
+          let t = state.0 in
+          let r = record_at l r₁ in
+          let here = sound_chip l u (images x r₁ zs) t c (omega (arith, b.chip)) in
+          let is_page_lem = page_number_lem l u.within (page_in l v k) (page_in_fits l v k chosen.victim place) in
+          let (j, low, names_it) = named_by l r c (page_in l v k) n in
+          let stripe = (name_stamped l r (page_at l x c) c (collection_at l r₁) here (page_in l v k) j low is_page_lem names_it).stripe in
+          record {
+            stripe = rw stripe low;
+            sound = rw stripe (record_pass l (r j) (t.stripes.stripe j low));
+            named = rw stripe names_it;
+          }
 
-        -- the victim's pages are as they were
-        pub copying_still : (k : ℕ) → k < g.k → page_at l x c (page_in l v k) ≡ page_at l x₀ c (page_in l v k)
-        copying_still k place =
-            state.1.outside (page_in l v k) (in_other_block l d v k (λ same. blocks_differ l u s f c v d chosen (sym same)) place)
+      -- it is copied as it stands
+      pub copying_stands : (k : ℕ) → k < g.k → named_in l (record_at l r₁) c v k ≡ true → {to : ℕ} {r : Progress} {y : List ℕ}
+          → ((rs ws : List ℕ) → Ran l q (fed (copy_feed l c (images x r₁ zs) (v * g.k + k)) (λ xs. program c to (copy_of l (v * g.k + k) (page_at l x c (v * g.k + k)) xs)) ∷ []) r (images x rs ws) (images y rs ws))
+          → (rs ws : List ℕ) → Ran l q (fed (as_stands (page_at l x c) (v * g.k + k)) (λ xs. program c to (copy_of l (v * g.k + k) (page_at l x c (v * g.k + k)) xs)) ∷ []) r (images x rs ws) (images y rs ws)
+      copying_stands k place n h rs ws =
+          rw (copied_as_stands l u (images x r₁ zs) state.0 c (omega (arith, b.chip)) (page_in l v k) (page_number_lem l u.within (page_in l v k) (page_in_fits l v k chosen.victim place)) n) at (h rs ws)
+
+      -- the victim's pages are as they were
+      pub copying_still : (k : ℕ) → k < g.k → page_at l x c (page_in l v k) ≡ page_at l x₀ c (page_in l v k)
+      copying_still k place =
+          state.1.outside (page_in l v k) (in_other_block l d v k (λ same. blocks_differ l u s f c v d chosen (sym same)) place)

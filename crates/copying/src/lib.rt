@@ -2,8 +2,7 @@
 
 #![tactic(auto)]
 
-ghost use Rattle.std.specs.Prelude.{◌≡◌, true, List, [], ◌∷◌, ℕ, ◌≤◌, ◌<◌, length};
-ghost use Rattle.ranges.specs.declared.Found.TheVariants.{At};
+ghost use Rattle.std.specs.Prelude.{◌≡◌, true, List, [], ◌∷◌, ℕ, ◌≤◌, ◌<◌, length, Some};
 ghost use Rattle.layout.specs.Layout.{layout_of, pages};
 ghost use Rattle.layout.specs.Page.{page_at};
 ghost use Rattle.layout.specs.Record.{record_at};
@@ -19,7 +18,7 @@ ghost use Rattle.copying.specs.Copyable.{Copyable};
 
 use codec::{CollectionRecord, Spare, spare_at};
 use device::{program, store_collection};
-use fetch::{fetch, role_of};
+use fetch::{View, role_of};
 use layout::{Geometry, NO_CHIP};
 use names::named_at;
 use steps::Progress;
@@ -46,7 +45,13 @@ fn copy_page(
     let t = spare_at(chips, g, c, p);
     let j = t.stripe;
     let role = role_of(records, g, j, c, p);
-    let got = fetch(work, chips, records, slots, g, NO_CHIP, j, role, true);
+    let view = View {
+        g,
+        chips,
+        records,
+        slots,
+    };
+    let got = view.fetch(work, NO_CHIP, j, role, true);
     let spare = Spare {
         kind: t.kind,
         member: t.member,
@@ -93,7 +98,7 @@ pub fn copy_block(
 ) -> Progress
     requires { Settled g chips.old records.old × (c ≤ g.n) × Sane p
         × (v < g.b) × (collectable (layout_of g) c (page_at (layout_of g) chips.old c) (record_at (layout_of g) records.old) v ≡ true)
-        × (lowest_clean_block (layout_of g) (page_at (layout_of g) chips.old c) ≡ At d)
+        × (lowest_clean_block (layout_of g) (page_at (layout_of g) chips.old c) ≡ Some d)
         × SlotsFit g slots.now × (length work.old ≡ g.w) }
     ensures { Ran (layout_of g) p
         (copy_steps (layout_of g) c (page_at (layout_of g) chips.old c)
@@ -104,8 +109,7 @@ pub fn copy_block(
     let k = g.k as usize;
     let mut run = store_phase(records, g, 1, c, v, d, p);
     let mut copies: usize = 0;
-    let mut i = 0;
-    while i < k {
+    for i in 0..k {
         // past a cut no store is made, and the images are not those that the next part is worked out from
         if run.cut {
             return run;
@@ -115,7 +119,6 @@ pub fn copy_block(
             run = copy_page(chips, records, slots, work, g, c, page, d * k + copies, run);
             copies += 1;
         }
-        i += 1;
     }
     store_phase(records, g, 2, c, v, d, run)
 }

@@ -17,12 +17,10 @@ pub fn set_bits(g: Geometry, bitmap: usize) -> usize
 {
     let n = g.n as usize;
     let mut p: usize = 0;
-    let mut m = 0;
-    while m < n {
+    for m in 0..n {
         if bit_of(bitmap, m) {
             p += 1;
         }
-        m += 1;
     }
     p
 }

@@ -3,6 +3,7 @@
 #![tactic(auto)]
 
 ghost use Rattle.std.specs.Prelude.{◌≡◌, true, List, [], ◌∷◌, ℕ, ◌+◌, ◌-◌, ◌^◌, ◌≤◌, ◌<◌, min, length};
+ghost use Rattle.std.specs.Fn.{FnOnceTakesAtMut, FnOnceReturnsAtMut};
 ghost use Rattle.layout.specs.Layout.{layout_of, pages};
 ghost use Rattle.steps.specs.Store.{program as programStore, erase as eraseStore, slot as slotStore, stripe, collection};
 ghost use Rattle.steps.specs.Steps.{plain, no_counts, reading};
@@ -23,14 +24,9 @@ pub fn start_after(reads: u64, allowance: u64) -> Progress
     requires { reads < 2 ^ 62 }
     ensures { (result ≡ started (reading reads) (min allowance (2 ^ 59))) × Sane result }
 {
-    let left = lesser(allowance, MOST_STORES);
+    let left = allowance.min(MOST_STORES);
     Progress {
-        counts: Counts {
-            reads,
-            programs: 0,
-            erases: 0,
-            stores: 0,
-        },
+        counts: Counts::of_reads(reads),
         left,
         cut: false,
     }
@@ -43,22 +39,44 @@ pub fn start(allowance: u64) -> Progress
     start_after(0, allowance)
 }
 
-// A store is due, and nothing is left of the allowance.
-fn stop(p: Progress) -> Progress
-    ensures { result ≡ record { counts = p.counts; left = p.left; cut = true } }
+// How many of the stores that are due the allowance holds.
+pub fn held(p: Progress, due: usize) -> usize
+    ensures { result ≡ min p.left due }
 {
-    let counts = p.counts;
+    p.left.min(due as u64) as usize
+}
+
+// So many stores alike are due, for which no page is read or programmed: those that the allowance holds are counted.
+pub fn count_all(p: Progress, due: u64, erases: u64) -> Progress
+    requires { Sane p × (erases ≤ 1) }
+    ensures { result ≡ counting_all p due erases }
+{
+    let made = p.left.min(due);
+    let c = p.counts;
     Progress {
-        counts,
-        left: p.left,
-        cut: true,
+        counts: Counts {
+            erases: c.erases + made * erases,
+            stores: c.stores + made,
+            ..c
+        },
+        left: p.left - made,
+        cut: p.cut | (p.left < due),
     }
 }
 
-// One store more, for which so many pages were read, programmed and erased.
-fn count(p: Progress, reads: u64, programs: u64, erases: u64) -> Progress
-    requires { Sane p × (0 < p.left) × (reads ≤ most_reads) × (programs ≤ 1) × (erases ≤ 1) }
-    ensures { result ≡ record {
+// One store under the allowance: with nothing left the run is cut; else put changes the image, and so many pages read, programmed and
+// erased are counted.
+fn store<F: FnOnce(&mut [u8])>(
+    image: &mut [u8],
+    reads: u64,
+    programs: u64,
+    erases: u64,
+    p: Progress,
+    put: F,
+) -> Progress
+    requires { FnOnceTakesAtMut F.FnOnce put image.old × Sane p × (reads ≤ most_reads) × (programs ≤ 1) × (erases ≤ 1) }
+    ensures stopped { p.left ≡ 0 → (result ≡ record { counts = p.counts; left = p.left; cut = true }) × (image.new ≡ image.old) }
+    ensures made { 0 < p.left → FnOnceReturnsAtMut F.FnOnce put image.old tt image.new × (result ≡ record {
       counts = record {
         reads = p.counts.reads + reads;
         programs = p.counts.programs + programs;
@@ -67,8 +85,12 @@ fn count(p: Progress, reads: u64, programs: u64, erases: u64) -> Progress
       };
       left = p.left - 1;
       cut = p.cut;
-    } }
+    }) }
 {
+    if p.left == 0 {
+        return Progress { cut: true, ..p };
+    }
+    put(image);
     let c = p.counts;
     Progress {
         counts: Counts {
@@ -78,40 +100,7 @@ fn count(p: Progress, reads: u64, programs: u64, erases: u64) -> Progress
             stores: c.stores + 1,
         },
         left: p.left - 1,
-        cut: p.cut,
-    }
-}
-
-// The lesser of two numbers.
-fn lesser(a: u64, b: u64) -> u64
-    ensures { result ≡ min a b }
-{
-    if a < b { a } else { b }
-}
-
-// How many of the stores that are due the allowance holds.
-pub fn held(p: Progress, due: usize) -> usize
-    ensures { result ≡ min p.left due }
-{
-    lesser(p.left, due as u64) as usize
-}
-
-// So many stores alike are due, for which no page is read or programmed: those that the allowance holds are counted.
-pub fn count_all(p: Progress, due: u64, erases: u64) -> Progress
-    requires { Sane p × (erases ≤ 1) }
-    ensures { result ≡ counting_all p due erases }
-{
-    let made = lesser(p.left, due);
-    let c = p.counts;
-    Progress {
-        counts: Counts {
-            reads: c.reads,
-            programs: c.programs,
-            erases: c.erases + made * erases,
-            stores: c.stores + made,
-        },
-        left: p.left - made,
-        cut: p.cut | (p.left < due),
+        ..p
     }
 }
 
@@ -131,11 +120,14 @@ pub fn program(
         (record { reads = reads; store = programStore c q (page_from (layout_of g) bytes.now t) } ∷ [])
         result (images chips.old rs zs) (images chips.new rs zs) }
 {
-    if p.left == 0 {
-        return stop(p);
-    }
-    put_page(chips, g, c, q, bytes, t);
-    count(p, reads, 1, 0)
+    store(
+        chips,
+        reads,
+        1,
+        0,
+        p,
+        |image| put_page(image, g, c, q, bytes, t),
+    )
 }
 
 // Erases block b of chip c.
@@ -144,11 +136,7 @@ pub fn erase(chips: &mut [u8], g: Geometry, c: usize, b: usize, p: Progress) -> 
     ensures { (rs zs : List ℕ) → Ran (layout_of g) p (plain (eraseStore c b) ∷ [])
         result (images chips.old rs zs) (images chips.new rs zs) }
 {
-    if p.left == 0 {
-        return stop(p);
-    }
-    put_clean_block(chips, g, c, b);
-    count(p, 0, 0, 1)
+    store(chips, 0, 0, 1, p, |image| put_clean_block(image, g, c, b))
 }
 
 // Stores the bytes into slot i, for which so many pages were read.
@@ -164,11 +152,7 @@ pub fn store_slot(
     ensures { (cs rs : List ℕ) → Ran (layout_of g) p (record { reads = reads; store = slotStore i bytes.now } ∷ [])
         result (images cs rs slots.old) (images cs rs slots.new) }
 {
-    if p.left == 0 {
-        return stop(p);
-    }
-    put_slot(slots, g, i, bytes);
-    count(p, reads, 0, 0)
+    store(slots, reads, 0, 0, p, |image| put_slot(image, g, i, bytes))
 }
 
 // Stores the record of stripe j.
@@ -183,11 +167,7 @@ pub fn store_record(
     ensures { (cs zs : List ℕ) → Ran (layout_of g) p (plain (stripe j (record_from (layout_of g) e)) ∷ [])
         result (images cs records.old zs) (images cs records.new zs) }
 {
-    if p.left == 0 {
-        return stop(p);
-    }
-    put_record(records, g, j, e);
-    count(p, 0, 0, 0)
+    store(records, 0, 0, 0, p, |image| put_record(image, g, j, e))
 }
 
 // Stores the collection record.
@@ -201,9 +181,5 @@ pub fn store_collection(
     ensures { (cs zs : List ℕ) → Ran (layout_of g) p (plain (collection (collection_from co)) ∷ [])
         result (images cs records.old zs) (images cs records.new zs) }
 {
-    if p.left == 0 {
-        return stop(p);
-    }
-    put_collection(records, g, co);
-    count(p, 0, 0, 0)
+    store(records, 0, 0, 0, p, |image| put_collection(image, g, co))
 }

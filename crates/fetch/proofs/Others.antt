@@ -1,8 +1,9 @@
 -- What a sound record says of its stripe's pages: the others that a page is rebuilt from; its numbers by their index, and in a role.
-use Prim.Native.Nat.{ℕ, ◌+◌, ◌-◌, ◌≤◌, ◌<◌}
+use Prim.Native.Nat.{ℕ, ◌+◌, ◌-◌, ◌/◌, ◌%◌, ◌^◌, ◌≤◌, ◌<◌}
 use native.Mathlib.Nat.{zero-add}
 use native.Mathlib.Omega.{arith}
 use mathlib.Core.Path.{◌≡◌, refl, sym, ap, ap₂, ◌∙◌}
+use mathlib.Core.Logic.{◌⊎◌, inl, inr}
 use mathlib.Core.Bool.{Bool, true, false, not, cond, ◌&&◌, ◌||◌}
 use mathlib.Core.List.{List}
 use lib.Dec.{eqb}
@@ -55,6 +56,12 @@ others_by l inside m r i = one_of inside (eqb i m) (bit r i)
     one_of false true t = refl
     one_of false false true = refl
     one_of false false false = refl
+
+-- with the bit as it is told of the bitmap
+pub others_told : (l : Layout) (inside : Bool) (m : ℕ) (r : Record) (i : ℕ) {bitmap : ℕ} {set : Bool} → bitmap ≡ r.bitmap → set ≡ eqb (bitmap / 2 ^ i % 2) 1
+    → others l inside m r i ≡ cond (eqb i m || (inside && not set)) (none l) (cond (set && not inside) (r.old i) (r.current i))
+unfolding bit
+others_told l inside m r i {bitmap} same told = rw (told ∙ ap (λ (n : ℕ). eqb (n / 2 ^ i % 2) 1) same) (others_by l inside m r i)
 
 -- a sound record's are those of pages
 pub others_fit : (l : Layout) → Within l → (inside : Bool) (m : ℕ) (r : Record) → RecordSound l r → (i : ℕ) → i < l.N → Numbered l (others l inside m r i)
@@ -128,6 +135,10 @@ current_fits g e h = rw e at h
 
 pub old_fits : (g : Geometry) {role : Role} {m : ℕ} → role ≡ Old m → RoleFits g role → m < g.n
 old_fits g e h = rw e at h
+
+pub member_fits : (g : Geometry) {role : Role} {m : ℕ} → (role ≡ Current m) ⊎ (role ≡ Old m) → RoleFits g role → m < g.n
+member_fits g (inl e) h = current_fits g e h
+member_fits g (inr e) h = old_fits g e h
 
 -- the numbers of a record by their index are those of its members, and of the parity
 pub number_current : (r : Record) (m : ℕ) → m < 6 → number_of r m ≡ r.current m

@@ -26,8 +26,32 @@ use layout::Geometry;
 use octets::{copy, fill, xor_into};
 use rules::{Origin, Role};
 
-// No member.
+// No member. No Option: it is only compared with each member (`left_out`).
 const NO_MEMBER: usize = 6;
+
+// The images of a store, lent together with the geometry that they fit.
+#[derive(Clone, Copy)]
+pub struct View<'a> {
+    pub g: Geometry,
+    pub chips: &'a [u8],
+    pub records: &'a [u8],
+    pub slots: &'a [u8],
+    pub ghost chips_fit: { ChipsFit g chips.now },
+    pub ghost records_fit: { RecordsFit g records.now },
+    pub ghost slots_fit: { SlotsFit g slots.now },
+}
+
+// A stripe of these images, whose record is sound.
+#[derive(Clone, Copy)]
+struct Stripe<'a> {
+    view: View<'a>,
+    j: usize,
+    // the chip of its parity
+    parity: usize,
+    ghost within: { j < view.g.s },
+    ghost beside: { (parity ≡ parity_chip (layout_of view.g) j) × (parity ≤ view.g.n) },
+    ghost sound: { record_sound (layout_of view.g) (record_at (layout_of view.g) view.records.now j) ≡ true },
+}
 
 // What a fetch tells, besides the bytes.
 #[derive(Clone, Copy)]
@@ -58,180 +82,14 @@ fn add_none(work: &mut [u8], fresh: bool)
     }
 }
 
-// XORs into work page p of chip c as it stands, and answers how many pages were read: of no page, none.
-fn add_page(work: &mut [u8], chips: &[u8], g: Geometry, c: usize, p: usize, fresh: bool) -> u64
-    requires { ChipsFit g chips.now × (length work.old ≡ g.w) × (c ≤ g.n) × (p ≢ none (layout_of g) → p < pages (layout_of g)) }
-    ensures { (work.new ≡ begun fresh work.old ⊕ (itself (layout_of g) (page_at (layout_of g) chips.now) c p).bytes)
-        × (result ≡ (itself (layout_of g) (page_at (layout_of g) chips.now) c p).reads) × (result ≤ 1) }
-{
-    if p != NONE {
-        add(work, page_data(chips, g, c, p), fresh);
-        return 1;
-    }
-    add_none(work, fresh);
-    0
-}
-
-// The page of member i that goes into a rebuilt one: of the others than m those inside the bitmap, or those that the parity was stored over.
-fn other_number(
-    records: &[u8],
-    g: Geometry,
-    j: usize,
-    bitmap: usize,
-    inside: bool,
-    m: usize,
-    i: usize,
-) -> usize
-    requires { RecordsFit g records.now × (j < g.s) × (i < 6) × (bitmap ≡ (record_at (layout_of g) records.now j).bitmap) }
-    ensures { result ≡ others (layout_of g) inside m (record_at (layout_of g) records.now j) i }
-{
-    let set = bit_of(bitmap, i);
-    if (i == m) | (inside & !set) {
-        return NONE;
-    }
-    if set & !inside {
-        return number_in(records, g, j, OLD + i);
-    }
-    number_in(records, g, j, i)
-}
-
-// XORs into work each of these pages of stripe j, and answers how many were read. The numbers are read where they lie.
-fn gather(
-    work: &mut [u8],
-    chips: &[u8],
-    records: &[u8],
-    g: Geometry,
-    j: usize,
-    parity: usize,
-    inside: bool,
-    m: usize,
-) -> u64
-    requires { ChipsFit g chips.now × RecordsFit g records.now × (length work.old ≡ g.w) × (j < g.s) × (parity ≡ parity_chip (layout_of g) j)
-        × (record_sound (layout_of g) (record_at (layout_of g) records.now j) ≡ true) }
-    ensures { (work.new ≡ work.old
-        ⊕ (gathered (layout_of g) (page_at (layout_of g) chips.now) j (others (layout_of g) inside m (record_at (layout_of g) records.now j))).bytes)
-        × (result ≡ (gathered (layout_of g) (page_at (layout_of g) chips.now) j (others (layout_of g) inside m (record_at (layout_of g) records.now j))).reads)
-        × (result ≤ 6) }
-{
-    let n = g.n as usize;
-    let bitmap = bitmap_at(records, g, j);
-    let mut reads = 0;
-    let mut i = 0;
-    while i < n {
-        let p = other_number(records, g, j, bitmap, inside, m, i);
-        let read = add_page(work, chips, g, chip_beside(parity, i), p, false);
-        reads += read;
-        i += 1;
-    }
-    reads
-}
-
-// XORs into work member m of stripe j as the partial parity has it.
-fn through_partial(
-    work: &mut [u8],
-    chips: &[u8],
-    records: &[u8],
-    slots: &[u8],
-    g: Geometry,
-    j: usize,
-    parity: usize,
-    m: usize,
-    fresh: bool,
-) -> Got
-    requires { ChipsFit g chips.now × RecordsFit g records.now × SlotsFit g slots.now × (length work.old ≡ g.w) × (j < g.s) × (parity ≡ parity_chip (layout_of g) j)
-        × (record_sound (layout_of g) (record_at (layout_of g) records.now j) ≡ true) × (bit (record_at (layout_of g) records.now j) m ≡ true) }
-    ensures { Into (through_partial (layout_of g) (page_at (layout_of g) chips.now) (slot_at (layout_of g) slots.now) j (record_at (layout_of g) records.now j) m)
-        (begun fresh work.old) work.new result }
-{
-    add(work, slot_data(slots, g, slot_at(records, g, j)), fresh);
-    Got {
-        reads: gather(work, chips, records, g, j, parity, true, m),
-        origin: Origin::Partial,
-    }
-}
-
-// The page that goes in first: the parity page, but where it is the one that is rebuilt.
-fn first_number(records: &[u8], g: Geometry, j: usize, role: Role) -> usize
-    requires { RecordsFit g records.now × (j < g.s) }
-    ensures { result ≡ first_in (layout_of g) (record_at (layout_of g) records.now j) role }
-{
-    match role {
-        Role::Current(_) => number_in(records, g, j, LAST),
-        Role::Old(_) => number_in(records, g, j, LAST),
-        Role::Parity => NONE,
-    }
-}
-
 // The member that is left out of the others.
 fn left_out(role: Role) -> usize
     ensures { result ≡ left_out role }
 {
     match role {
-        Role::Current(m) => m,
-        Role::Old(m) => m,
+        Role::Current(m) | Role::Old(m) => m,
         Role::Parity => NO_MEMBER,
     }
-}
-
-// XORs into work the page in this role as the parity has it: the parity page and the others that it was stored over.
-fn through_parity(
-    work: &mut [u8],
-    chips: &[u8],
-    records: &[u8],
-    g: Geometry,
-    j: usize,
-    parity: usize,
-    role: Role,
-    fresh: bool,
-) -> Got
-    requires { ChipsFit g chips.now × RecordsFit g records.now × (length work.old ≡ g.w) × (j < g.s) × (parity ≡ parity_chip (layout_of g) j) × (parity ≤ g.n)
-        × (record_sound (layout_of g) (record_at (layout_of g) records.now j) ≡ true) }
-    ensures { (z : ℕ → List ℕ) → Into (through_full (layout_of g) (page_at (layout_of g) chips.now) z j (record_at (layout_of g) records.now j) role)
-        (begun fresh work.old) work.new result }
-{
-    let p = first_number(records, g, j, role);
-    let first = add_page(work, chips, g, parity, p, fresh);
-    let m = left_out(role);
-    Got {
-        reads: first + gather(work, chips, records, g, j, parity, false, m),
-        origin: Origin::Full,
-    }
-}
-
-// Whether it is a current page in the partial parity.
-fn is_inside(records: &[u8], g: Geometry, j: usize, role: Role) -> bool
-    requires { RecordsFit g records.now × (j < g.s) × RoleFits g role }
-    ensures { result ≡ is_inside (record_at (layout_of g) records.now j) role }
-{
-    match role {
-        Role::Current(m) => bit_of(bitmap_at(records, g, j), m),
-        Role::Old(_) => false,
-        Role::Parity => false,
-    }
-}
-
-// The page of stripe j in this role, rebuilt from the other chips.
-fn rebuild(
-    work: &mut [u8],
-    chips: &[u8],
-    records: &[u8],
-    slots: &[u8],
-    g: Geometry,
-    j: usize,
-    parity: usize,
-    role: Role,
-    fresh: bool,
-) -> Got
-    requires { ChipsFit g chips.now × RecordsFit g records.now × SlotsFit g slots.now × (length work.old ≡ g.w) × (j < g.s)
-        × (parity ≡ parity_chip (layout_of g) j) × (parity ≤ g.n) × RoleFits g role × (record_sound (layout_of g) (record_at (layout_of g) records.now j) ≡ true) }
-    ensures { Into (rebuilt (layout_of g) (page_at (layout_of g) chips.now) (slot_at (layout_of g) slots.now) j (record_at (layout_of g) records.now j) role)
-        (begun fresh work.old) work.new result }
-{
-    if is_inside(records, g, j, role) {
-        let m = left_out(role);
-        return through_partial(work, chips, records, slots, g, j, parity, m, fresh);
-    }
-    through_parity(work, chips, records, g, j, parity, role, fresh)
 }
 
 // The chip of a page in this role, of a stripe whose parity is on chip `parity`.
@@ -240,21 +98,116 @@ fn chip_of(g: Geometry, parity: usize, role: Role) -> usize
     ensures { ((j : ℕ) → parity ≡ parity_chip (layout_of g) j → result ≡ chip_in (layout_of g) j role) × (result ≤ g.n) }
 {
     match role {
-        Role::Current(m) => chip_beside(parity, m),
-        Role::Old(m) => chip_beside(parity, m),
+        Role::Current(m) | Role::Old(m) => chip_beside(parity, m),
         Role::Parity => parity,
     }
 }
 
-// Its number in the record.
-fn number_named(records: &[u8], g: Geometry, j: usize, role: Role) -> usize
-    requires { RecordsFit g records.now × (j < g.s) × RoleFits g role }
-    ensures { result ≡ number_in (layout_of g) (record_at (layout_of g) records.now j) role }
-{
-    match role {
-        Role::Current(m) => number_in(records, g, j, m),
-        Role::Old(m) => number_in(records, g, j, OLD + m),
-        Role::Parity => number_in(records, g, j, LAST),
+impl Stripe<'_> {
+    // The page of member i that goes into a rebuilt one: of the others than m those inside the bitmap, or those that the parity was stored over.
+    fn other_number(&self, bitmap: usize, inside: bool, m: usize, i: usize) -> usize
+        requires { (i < 6) × (bitmap ≡ (record_at (layout_of self.now.view.g) self.now.view.records.now self.now.j).bitmap) }
+        ensures { result ≡ others (layout_of self.now.view.g) inside m (record_at (layout_of self.now.view.g) self.now.view.records.now self.now.j) i }
+    {
+        let set = bit_of(bitmap, i);
+        if (i == m) | (inside & !set) {
+            return NONE;
+        }
+        if set & !inside {
+            return number_in(self.view.records, self.view.g, self.j, OLD + i);
+        }
+        number_in(self.view.records, self.view.g, self.j, i)
+    }
+
+    // XORs into work each of these pages, and answers how many were read. The numbers are read where they lie.
+    fn gather(&self, work: &mut [u8], inside: bool, m: usize) -> u64
+        requires { length work.old ≡ self.now.view.g.w }
+        ensures { (work.new ≡ work.old
+            ⊕ (gathered (layout_of self.now.view.g) (page_at (layout_of self.now.view.g) self.now.view.chips.now) self.now.j
+            (others (layout_of self.now.view.g) inside m (record_at (layout_of self.now.view.g) self.now.view.records.now self.now.j))).bytes)
+            × (result ≡ (gathered (layout_of self.now.view.g) (page_at (layout_of self.now.view.g) self.now.view.chips.now) self.now.j
+            (others (layout_of self.now.view.g) inside m (record_at (layout_of self.now.view.g) self.now.view.records.now self.now.j))).reads)
+            × (result ≤ 6) }
+    {
+        let n = self.view.g.n as usize;
+        let bitmap = bitmap_at(self.view.records, self.view.g, self.j);
+        let mut reads = 0;
+        for i in 0..n {
+            let p = self.other_number(bitmap, inside, m, i);
+            let c = chip_beside(self.parity, i);
+            let read = self.view.add_page(work, c, p, false);
+            reads += read;
+        }
+        reads
+    }
+
+    // XORs into work member m as the partial parity has it.
+    fn through_partial(&self, work: &mut [u8], m: usize, fresh: bool) -> Got
+        requires { (length work.old ≡ self.now.view.g.w) × (bit (record_at (layout_of self.now.view.g) self.now.view.records.now self.now.j) m ≡ true) }
+        ensures { Into (through_partial (layout_of self.now.view.g) (page_at (layout_of self.now.view.g) self.now.view.chips.now)
+            (slot_at (layout_of self.now.view.g) self.now.view.slots.now) self.now.j
+            (record_at (layout_of self.now.view.g) self.now.view.records.now self.now.j) m)
+            (begun fresh work.old) work.new result }
+    {
+        let i = slot_at(self.view.records, self.view.g, self.j);
+        add(work, slot_data(self.view.slots, self.view.g, i), fresh);
+        Got {
+            reads: self.gather(work, true, m),
+            origin: Origin::Partial,
+        }
+    }
+
+    // The page that goes in first: the parity page, but where it is the one that is rebuilt.
+    fn first_number(&self, role: Role) -> usize
+        ensures { result ≡ first_in (layout_of self.now.view.g) (record_at (layout_of self.now.view.g) self.now.view.records.now self.now.j) role }
+    {
+        match role {
+            Role::Current(_) | Role::Old(_) => {
+                number_in(self.view.records, self.view.g, self.j, LAST)
+            }
+            Role::Parity => NONE,
+        }
+    }
+
+    // XORs into work the page in this role as the parity has it: the parity page and the others that it was stored over.
+    fn through_parity(&self, work: &mut [u8], role: Role, fresh: bool) -> Got
+        requires { length work.old ≡ self.now.view.g.w }
+        ensures { (z : ℕ → List ℕ) → Into (through_full (layout_of self.now.view.g) (page_at (layout_of self.now.view.g) self.now.view.chips.now) z self.now.j
+            (record_at (layout_of self.now.view.g) self.now.view.records.now self.now.j) role)
+            (begun fresh work.old) work.new result }
+    {
+        let p = self.first_number(role);
+        let first = self.view.add_page(work, self.parity, p, fresh);
+        let m = left_out(role);
+        Got {
+            reads: first + self.gather(work, false, m),
+            origin: Origin::Full,
+        }
+    }
+
+    // Whether it is a current page in the partial parity.
+    fn is_inside(&self, role: Role) -> bool
+        requires { RoleFits self.now.view.g role }
+        ensures { result ≡ is_inside (record_at (layout_of self.now.view.g) self.now.view.records.now self.now.j) role }
+    {
+        match role {
+            Role::Current(m) => bit_of(bitmap_at(self.view.records, self.view.g, self.j), m),
+            Role::Old(_) | Role::Parity => false,
+        }
+    }
+
+    // The page in this role, rebuilt from the other chips.
+    fn rebuild(&self, work: &mut [u8], role: Role, fresh: bool) -> Got
+        requires { (length work.old ≡ self.now.view.g.w) × RoleFits self.now.view.g role }
+        ensures { Into (rebuilt (layout_of self.now.view.g) (page_at (layout_of self.now.view.g) self.now.view.chips.now)
+            (slot_at (layout_of self.now.view.g) self.now.view.slots.now) self.now.j
+            (record_at (layout_of self.now.view.g) self.now.view.records.now self.now.j) role)
+            (begun fresh work.old) work.new result }
+    {
+        if self.is_inside(role) {
+            return self.through_partial(work, left_out(role), fresh);
+        }
+        self.through_parity(work, role, fresh)
     }
 }
 
@@ -272,64 +225,6 @@ pub fn role_of(records: &[u8], g: Geometry, j: usize, c: usize, p: usize) -> Rol
         return Role::Current(m);
     }
     Role::Old(m)
-}
-
-// XORs into work the page of stripe j in this role, or what it is rebuilt from where its chip is lost; of no page, nothing. Work that is fresh
-// becomes the page.
-pub fn fetch(
-    work: &mut [u8],
-    chips: &[u8],
-    records: &[u8],
-    slots: &[u8],
-    g: Geometry,
-    lost: usize,
-    j: usize,
-    role: Role,
-    fresh: bool,
-) -> Got
-    requires { ChipsFit g chips.now × RecordsFit g records.now × SlotsFit g slots.now × (length work.old ≡ g.w) × (j < g.s) × RoleFits g role
-        × (record_sound (layout_of g) (record_at (layout_of g) records.now j) ≡ true) }
-    ensures { Into (fetch_in (layout_of g) (images chips.now records.now slots.now) lost j role)
-        (begun fresh work.old) work.new result }
-{
-    let p = number_named(records, g, j, role);
-    if p == NONE {
-        add_none(work, fresh);
-        return Got {
-            reads: 0,
-            origin: Origin::Unwritten,
-        };
-    }
-    let parity = parity_chip(g, j);
-    let c = chip_of(g, parity, role);
-    if c == lost {
-        return rebuild(work, chips, records, slots, g, j, parity, role, fresh);
-    }
-    Got {
-        reads: add_page(work, chips, g, c, p, fresh),
-        origin: Origin::Direct,
-    }
-}
-
-// The buffer becomes member m of stripe j.
-pub fn fetch_member(
-    buffer: &mut [u8],
-    chips: &[u8],
-    records: &[u8],
-    slots: &[u8],
-    g: Geometry,
-    lost: usize,
-    j: usize,
-    m: usize,
-) -> Got
-    requires { ChipsFit g chips.now × RecordsFit g records.now × SlotsFit g slots.now × (length buffer.old ≡ g.w) × (j < g.s) × (m < g.n)
-        × (record_sound (layout_of g) (record_at (layout_of g) records.now j) ≡ true) }
-    ensures { (record { bytes = buffer.new; reads = result.reads; origin = result.origin }
-        ≡ fetch_member (layout_of g) (images chips.now records.now slots.now) lost j m)
-        × (result.reads ≤ 7) }
-{
-    let role = Role::Current(m);
-    fetch(buffer, chips, records, slots, g, lost, j, role, true)
 }
 
 // Whether member m of stripe j can be read off its chip: it is written, and its chip is not lost.
@@ -370,28 +265,91 @@ pub fn lent<'a>(
     work
 }
 
-// The buffer becomes member m of stripe j, for a read: on the lost chip it is gathered in a work page.
-pub fn read_member(
-    buffer: &mut [u8],
-    chips: &[u8],
-    records: &[u8],
-    slots: &[u8],
-    g: Geometry,
-    lost: usize,
-    j: usize,
-    m: usize,
-) -> Got
-    requires { ChipsFit g chips.now × RecordsFit g records.now × SlotsFit g slots.now × (length buffer.old ≡ g.w) × (j < g.s) × (m < g.n)
-        × (record_sound (layout_of g) (record_at (layout_of g) records.now j) ≡ true) }
-    ensures { record { bytes = buffer.new; reads = result.reads; origin = result.origin }
-        ≡ fetch_member (layout_of g) (images chips.now records.now slots.now) lost j m }
-{
-    if member_chip(g, j, m) != lost {
-        return fetch_member(buffer, chips, records, slots, g, lost, j, m);
+impl View<'_> {
+    // XORs into work page p of chip c as it stands, and answers how many pages were read: of no page, none.
+    fn add_page(&self, work: &mut [u8], c: usize, p: usize, fresh: bool) -> u64
+        requires { (length work.old ≡ self.now.g.w) × (c ≤ self.now.g.n) × (p ≢ none (layout_of self.now.g) → p < pages (layout_of self.now.g)) }
+        ensures { (work.new ≡ begun fresh work.old ⊕ (itself (layout_of self.now.g) (page_at (layout_of self.now.g) self.now.chips.now) c p).bytes)
+            × (result ≡ (itself (layout_of self.now.g) (page_at (layout_of self.now.g) self.now.chips.now) c p).reads) × (result ≤ 1) }
+    {
+        if p != NONE {
+            add(work, page_data(self.chips, self.g, c, p), fresh);
+            return 1;
+        }
+        add_none(work, fresh);
+        0
     }
-    let mut work = [0u8; 4096];
-    let w = g.w as usize;
-    let got = fetch_member(&mut work[0..w], chips, records, slots, g, lost, j, m);
-    copy(buffer, &work[0..w]);
-    got
+
+    // The number in the record of the page in this role.
+    fn number_named(&self, j: usize, role: Role) -> usize
+        requires { (j < self.now.g.s) × RoleFits self.now.g role }
+        ensures { result ≡ number_in (layout_of self.now.g) (record_at (layout_of self.now.g) self.now.records.now j) role }
+    {
+        let i = match role {
+            Role::Current(m) => m,
+            Role::Old(m) => OLD + m,
+            Role::Parity => LAST,
+        };
+        number_in(self.records, self.g, j, i)
+    }
+
+    // XORs into work the page of stripe j in this role, or what it is rebuilt from where its chip is lost; of no page, nothing. Work that is
+    // fresh becomes the page.
+    pub fn fetch(&self, work: &mut [u8], lost: usize, j: usize, role: Role, fresh: bool) -> Got
+        requires { (length work.old ≡ self.now.g.w) × (j < self.now.g.s) × RoleFits self.now.g role
+            × (record_sound (layout_of self.now.g) (record_at (layout_of self.now.g) self.now.records.now j) ≡ true) }
+        ensures { Into (fetch_in (layout_of self.now.g) (images self.now.chips.now self.now.records.now self.now.slots.now) lost j role)
+            (begun fresh work.old) work.new result }
+    {
+        let p = self.number_named(j, role);
+        if p == NONE {
+            add_none(work, fresh);
+            return Got {
+                reads: 0,
+                origin: Origin::Unwritten,
+            };
+        }
+        let parity = parity_chip(self.g, j);
+        let c = chip_of(self.g, parity, role);
+        if c == lost {
+            let stripe = Stripe {
+                view: *self,
+                j,
+                parity,
+            };
+            return stripe.rebuild(work, role, fresh);
+        }
+        Got {
+            reads: self.add_page(work, c, p, fresh),
+            origin: Origin::Direct,
+        }
+    }
+
+    // The buffer becomes member m of stripe j.
+    pub fn fetch_member(&self, buffer: &mut [u8], lost: usize, j: usize, m: usize) -> Got
+        requires { (length buffer.old ≡ self.now.g.w) × (j < self.now.g.s) × (m < self.now.g.n)
+            × (record_sound (layout_of self.now.g) (record_at (layout_of self.now.g) self.now.records.now j) ≡ true) }
+        ensures { (record { bytes = buffer.new; reads = result.reads; origin = result.origin }
+            ≡ fetch_member (layout_of self.now.g) (images self.now.chips.now self.now.records.now self.now.slots.now) lost j m)
+            × (result.reads ≤ 7) }
+    {
+        self.fetch(buffer, lost, j, Role::Current(m), true)
+    }
+
+    // The buffer becomes member m of stripe j, for a read: on the lost chip it is gathered in a work page.
+    pub fn read_member(&self, buffer: &mut [u8], lost: usize, j: usize, m: usize) -> Got
+        requires { (length buffer.old ≡ self.now.g.w) × (j < self.now.g.s) × (m < self.now.g.n)
+            × (record_sound (layout_of self.now.g) (record_at (layout_of self.now.g) self.now.records.now j) ≡ true) }
+        ensures { record { bytes = buffer.new; reads = result.reads; origin = result.origin }
+            ≡ fetch_member (layout_of self.now.g) (images self.now.chips.now self.now.records.now self.now.slots.now) lost j m }
+    {
+        if member_chip(self.g, j, m) != lost {
+            return self.fetch_member(buffer, lost, j, m);
+        }
+        let mut work = [0u8; 4096];
+        let page = &mut work[0..self.g.w as usize];
+        let got = self.fetch_member(page, lost, j, m);
+        copy(buffer, page);
+        got
+    }
 }

@@ -46,11 +46,6 @@ pub fn format_all(chips: &mut [u8], records: &mut [u8], g: Geometry, p: Progress
 {
     let erased = erase_chips(chips, g, p);
     let emptied = empty_records(records, g, erased);
-    let idle = CollectionRecord {
-        phase: 0,
-        chip: 0,
-        victim: 0,
-        destination: 0,
-    };
+    let idle = CollectionRecord::default();
     store_collection(records, g, idle, emptied)
 }

@@ -2,7 +2,7 @@
 
 #![tactic(auto)]
 
-// The lost chip where none is.
+// The lost chip where none is. No Option: C gives this number, and the definitions name it (`no_chip`).
 pub const NO_CHIP: usize = 255;
 
 // Letters and limits are those of document 01; any numbers may be given.

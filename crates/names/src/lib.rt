@@ -16,7 +16,7 @@ use codec::{DATA, NONE, PARITY, Spare, member_on, parity_chip, spare_at};
 use layout::Geometry;
 use ranges::ones;
 
-// The pages of a stripe on one chip: their numbers, the side number being an old page's or none, and their stamp.
+// The pages of a stripe on one chip: their numbers, the side number being an old page's or none, and their stamp, as a spare has it.
 #[derive(Clone, Copy)]
 struct StripePages {
     main: usize,
@@ -62,7 +62,7 @@ fn named_by_stamp(records: &[u8], g: Geometry, c: usize, p: usize, t: Spare) -> 
     (t.kind == e.kind) & (t.member == e.member) & ((e.main == p) | (e.side == p))
 }
 
-// Whether a record names page p of chip c.
+// Whether a record names page p of chip c. It is lent what it reads: a view would ask its callers for the slots too.
 pub fn named_at(chips: &[u8], records: &[u8], g: Geometry, c: usize, p: usize) -> bool
     requires { StampsPass g chips.now records.now c × (p < pages (layout_of g)) }
     ensures { result ≡ named (layout_of g) (record_at (layout_of g) records.now) c p }

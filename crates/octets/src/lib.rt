@@ -7,19 +7,12 @@ ghost use Rattle.octets.specs.Number.{number};
 ghost use Rattle.octets.specs.Units.{part};
 ghost use Rattle.octets.specs.Xor.{◌⊕◌};
 
-// A byte as a number.
-fn wide(b: u8) -> usize
-    ensures { (result ≡ b) × (result < 256) }
-{
-    b as usize
-}
-
 // The byte at offset a.
 pub fn byte(s: &[u8], a: usize) -> usize
     requires { a < length s.now }
     ensures { (result ≡ get_or s.now a 0) × (result < 256) }
 {
-    wide(s[a])
+    usize::from(s[a])
 }
 
 // The number that the two bytes at offset a hold.
@@ -43,8 +36,8 @@ pub fn zeros(s: &[u8]) -> bool
     ensures { result ≡ eqb (number s.now) 0 }
 {
     let mut acc: u8 = 0;
-    for i in 0..s.len() {
-        acc = acc | s[i];
+    for b in s {
+        acc |= b;
     }
     acc == 0
 }
@@ -53,9 +46,7 @@ pub fn zeros(s: &[u8]) -> bool
 pub fn fill(dst: &mut [u8], b: u8)
     ensures { dst.new ≡ replicate (length dst.old) b }
 {
-    for i in 0..dst.len() {
-        dst[i] = b;
-    }
+    dst.fill(b);
 }
 
 // The bytes of src, all of them.
@@ -63,6 +54,7 @@ pub fn copy(dst: &mut [u8], src: &[u8])
     requires { length src.now ≡ length dst.old }
     ensures { dst.new ≡ src.now }
 {
+    // by index: the library's copy comes to memmove, and the archive needs no more of the C library than memcpy and memset
     for i in 0..dst.len() {
         dst[i] = src[i];
     }
@@ -73,7 +65,8 @@ pub fn xor_into(dst: &mut [u8], src: &[u8])
     requires { length src.now ≡ length dst.old }
     ensures { dst.new ≡ dst.old ⊕ src.now }
 {
+    // by index, of both: of what a zip over iter_mut writes, a proof knows nothing
     for i in 0..dst.len() {
-        dst[i] = dst[i] ^ src[i];
+        dst[i] ^= src[i];
     }
 }

@@ -3,7 +3,7 @@ use Prim.Native.Nat.{ℕ, ◌+◌, ◌*◌, ◌≤◌, ◌<◌}
 use native.Mathlib.Nat.{zero-add}
 use native.Mathlib.Numerals.{add-one}
 use native.Mathlib.Omega.{arith}
-use mathlib.Core.Path.{◌≡◌, refl, ◌∙◌}
+use mathlib.Core.Path.{◌≡◌, refl, sym, ap, ◌∙◌}
 use mathlib.Core.Bool.{Bool, true, false, not, cond, beq}
 use mathlib.Core.List.{List, []}
 use lib.ListN.{length}
@@ -104,6 +104,11 @@ members_all {g} {m} s h =
     (rw all at s.bytes, rw all at s.counted, omega (arith, s.low, s.few, s.within))
 
 -- ---- the new parity
+
+-- whether most of the members are in the partial parity, as the code asks it
+pub most_told : (l : Layout) (e : StripeRecord) {bits : ℕ} {most : Bool} → bits ≡ set_bits l (record_from l e) → most ≡ most_in_partial l.N bits
+    → most_in_partial l.N (set_bits l (record_from l e)) ≡ most
+most_told l e bits told = sym (told ∙ ap (most_in_partial l.N) bits)
 
 module _ (g : Geometry) (w : Within (layout_of g)) (chips slots : List ℕ) (j : ℕ) (e : StripeRecord) where
   abbrev l : Layout

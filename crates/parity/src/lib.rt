@@ -18,69 +18,50 @@ use codec::{
 };
 use costs::{most_in_partial, set_bits};
 use device::{program, store_record};
-use fetch::fetch;
+use fetch::View;
 use layout::{Geometry, NO_CHIP};
 use octets::copy;
 use rules::Role;
 use steps::Progress;
 
 // XORs into work the old page of each member in the bitmap, or the current page of each other one, and answers how many were read.
-fn gather_members(
-    work: &mut [u8],
-    chips: &[u8],
-    records: &[u8],
-    slots: &[u8],
-    g: Geometry,
-    j: usize,
-    e: StripeRecord,
-    inside: bool,
-) -> u64
-    requires { ChipsFit g chips.now × RecordsFit g records.now × SlotsFit g slots.now × (length work.old ≡ g.w) × (j < g.s)
-        × (record_from (layout_of g) e ≡ record_at (layout_of g) records.now j) × (record_sound (layout_of g) (record_from (layout_of g) e) ≡ true) }
-    ensures { (work.new ≡ work.old ⊕ (members_in g chips.now slots.now j e inside).bytes)
-        × (result ≡ (members_in g chips.now slots.now j e inside).reads) × (result ≤ 42) }
+fn gather_members(work: &mut [u8], view: &View<'_>, j: usize, e: StripeRecord, inside: bool) -> u64
+    requires { (length work.old ≡ view.now.g.w) × (j < view.now.g.s)
+        × (record_from (layout_of view.now.g) e ≡ record_at (layout_of view.now.g) view.now.records.now j) × (record_sound (layout_of view.now.g) (record_from (layout_of view.now.g) e) ≡ true) }
+    ensures { (work.new ≡ work.old ⊕ (members_in view.now.g view.now.chips.now view.now.slots.now j e inside).bytes)
+        × (result ≡ (members_in view.now.g view.now.chips.now view.now.slots.now j e inside).reads) × (result ≤ 42) }
 {
-    let n = g.n as usize;
+    let n = view.g.n as usize;
     let mut reads = 0;
-    let mut m = 0;
-    while m < n {
+    for m in 0..n {
         if bit_of(e.bitmap, m) == inside {
             let role = if inside {
                 Role::Old(m)
             } else {
                 Role::Current(m)
             };
-            let got = fetch(work, chips, records, slots, g, NO_CHIP, j, role, false);
+            let got = view.fetch(work, NO_CHIP, j, role, false);
             reads += got.reads;
         }
-        m += 1;
     }
     reads
 }
 
 // Work becomes the new parity of stripe j, and the answer is how many pages were read for it.
-fn new_parity(
-    work: &mut [u8],
-    chips: &[u8],
-    records: &[u8],
-    slots: &[u8],
-    g: Geometry,
-    j: usize,
-    e: StripeRecord,
-) -> u64
-    requires { ChipsFit g chips.now × RecordsFit g records.now × SlotsFit g slots.now × (length work.old ≡ g.w) × (j < g.s)
-        × (record_from (layout_of g) e ≡ record_at (layout_of g) records.now j) × (record_sound (layout_of g) (record_from (layout_of g) e) ≡ true)
-        × (has_slot (record_from (layout_of g) e) ≡ true) }
-    ensures { (work.new ≡ (parity_in g chips.now slots.now j e).bytes)
-        × (result ≡ (parity_in g chips.now slots.now j e).reads) × (result ≤ most_reads) }
+fn new_parity(work: &mut [u8], view: &View<'_>, j: usize, e: StripeRecord) -> u64
+    requires { (length work.old ≡ view.now.g.w) × (j < view.now.g.s)
+        × (record_from (layout_of view.now.g) e ≡ record_at (layout_of view.now.g) view.now.records.now j) × (record_sound (layout_of view.now.g) (record_from (layout_of view.now.g) e) ≡ true)
+        × (has_slot (record_from (layout_of view.now.g) e) ≡ true) }
+    ensures { (work.new ≡ (parity_in view.now.g view.now.chips.now view.now.slots.now j e).bytes)
+        × (result ≡ (parity_in view.now.g view.now.chips.now view.now.slots.now j e).reads) × (result ≤ most_reads) }
 {
-    copy(work, slot_data(slots, g, e.slot));
-    if most_in_partial(g.n as usize, set_bits(g, e.bitmap)) {
-        return gather_members(work, chips, records, slots, g, j, e, false);
+    copy(work, slot_data(view.slots, view.g, e.slot));
+    if most_in_partial(view.g.n as usize, set_bits(view.g, e.bitmap)) {
+        return gather_members(work, view, j, e, false);
     }
     let role = Role::Parity;
-    let got = fetch(work, chips, records, slots, g, NO_CHIP, j, role, false);
-    got.reads + gather_members(work, chips, records, slots, g, j, e, true)
+    let got = view.fetch(work, NO_CHIP, j, role, false);
+    got.reads + gather_members(work, view, j, e, true)
 }
 
 // The record with its new parity page q: no olds, no bitmap, no slot.
@@ -115,7 +96,13 @@ pub fn commit_at(
         result (images chips.old records.old slots.now) (images chips.new records.new slots.now) }
 {
     let e = record_at(records, g, j);
-    let reads = new_parity(work, chips, records, slots, g, j, e);
+    let view = View {
+        g,
+        chips,
+        records,
+        slots,
+    };
+    let reads = new_parity(work, &view, j, e);
     let spare = Spare {
         kind: PARITY,
         member: 0,

@@ -2,7 +2,7 @@
 use Prim.Native.Nat.{ℕ}
 use mathlib.Core.Path.{◌≡◌, ap}
 use mathlib.Core.List.{List, [], ◌∷◌}
-use Rattle.ranges.specs.declared.Found.TheVariants.{At, Nothing}
+use Rattle.std.specs.Prelude.{Some, None}
 use Rattle.ranges.specs.Look.{when_found}
 use Rattle.layout.specs.declared.Geometry.{Geometry}
 use Rattle.layout.specs.Layout.{Layout, layout_of}
@@ -23,7 +23,7 @@ module _ (g : Geometry) (j m : ℕ) (xs : List ℕ) (q : ℕ) (x y z : List ℕ)
   l = layout_of g
 
   -- no slot is free: no store
-  pub steps_none : lowest_free_slot l (record_at l y) ≡ Nothing → slot_steps l j m xs q (images x y z) ≡ []
+  pub steps_none : lowest_free_slot l (record_at l y) ≡ None → slot_steps l j m xs q (images x y z) ≡ []
   unfolding slot_steps when_found
   steps_none e = rw e
 
@@ -33,7 +33,7 @@ module _ (g : Geometry) (j m : ℕ) (xs : List ℕ) (q : ℕ) (x y z : List ℕ)
     partial_from = ap (λ (r : Record). new_partial l (feed_role l (page_at l x) (slot_at l z) j r) (slot_at l z r.slot) m xs r) is
 
     -- slot i is free: the partial parity zs, for which so many pages were read, and the record n
-    pub steps_found : (i : ℕ) → lowest_free_slot l (record_at l y) ≡ At i → {n : Record} {zs : List ℕ} {reads : ℕ}
+    pub steps_found : (i : ℕ) → lowest_free_slot l (record_at l y) ≡ Some i → {n : Record} {zs : List ℕ} {reads : ℕ}
         → zs ≡ (partial_in g x z j m xs e).bytes → reads ≡ (partial_in g x z j m xs e).reads → n ≡ written l m q i (record_from l e)
         → slot_steps l j m xs q (images x y z) ≡ record { reads = reads; store = slot i zs } ∷ plain (stripe j n) ∷ []
     unfolding slot_steps when_found

@@ -14,41 +14,37 @@ ghost use Rattle.partial.specs.Feed.{partial_in};
 
 use codec::{DATA, NO_SLOT, NONE, Spare, StripeRecord, bit_of, member_chip, record_at, slot_data};
 use device::{program, store_record, store_slot};
-use fetch::fetch;
+use fetch::View;
 use layout::{Geometry, NO_CHIP};
 use octets::{copy, xor_into};
-use ranges::Found;
 use rules::Role;
 use steps::Progress;
 
 // Work becomes the new partial parity of stripe j with the data of member m, and the answer is how many pages were read for it.
 fn new_partial(
     work: &mut [u8],
-    chips: &[u8],
-    records: &[u8],
-    slots: &[u8],
-    g: Geometry,
+    view: &View<'_>,
     j: usize,
     m: usize,
     bytes: &[u8],
     e: StripeRecord,
 ) -> u64
-    requires { ChipsFit g chips.now × RecordsFit g records.now × SlotsFit g slots.now × (length work.old ≡ g.w) × (length bytes.now ≡ g.w) × (j < g.s) × (m < g.n)
-        × (record_from (layout_of g) e ≡ record_at (layout_of g) records.now j) × (record_sound (layout_of g) (record_from (layout_of g) e) ≡ true) }
-    ensures { (work.new ≡ (partial_in g chips.now slots.now j m bytes.now e).bytes)
-        × (result ≡ (partial_in g chips.now slots.now j m bytes.now e).reads) × (result ≤ most_reads) }
+    requires { (length work.old ≡ view.now.g.w) × (length bytes.now ≡ view.now.g.w) × (j < view.now.g.s) × (m < view.now.g.n)
+        × (record_from (layout_of view.now.g) e ≡ record_at (layout_of view.now.g) view.now.records.now j) × (record_sound (layout_of view.now.g) (record_from (layout_of view.now.g) e) ≡ true) }
+    ensures { (work.new ≡ (partial_in view.now.g view.now.chips.now view.now.slots.now j m bytes.now e).bytes)
+        × (result ≡ (partial_in view.now.g view.now.chips.now view.now.slots.now j m bytes.now e).reads) × (result ≤ most_reads) }
 {
     if e.slot == NO_SLOT {
         copy(work, bytes);
         return 0;
     }
-    copy(work, slot_data(slots, g, e.slot));
-    let mut reads = 0;
-    if bit_of(e.bitmap, m) {
-        let role = Role::Current(m);
-        let got = fetch(work, chips, records, slots, g, NO_CHIP, j, role, false);
-        reads = got.reads;
-    }
+    copy(work, slot_data(view.slots, view.g, e.slot));
+    let reads = if bit_of(e.bitmap, m) {
+        let got = view.fetch(work, NO_CHIP, j, Role::Current(m), false);
+        got.reads
+    } else {
+        0
+    };
     xor_into(work, bytes);
     reads
 }
@@ -79,7 +75,7 @@ fn store_partial(
     m: usize,
     bytes: &[u8],
     q: usize,
-    free: Found,
+    free: Option<usize>,
     p: Progress,
 ) -> Progress
     requires { ChipsFit g chips.now × RecordsFit g records.old × SlotsFit g slots.old × (length work.old ≡ g.w) × (j < g.s) × (m < g.n) × (length bytes.now ≡ g.w)
@@ -89,13 +85,19 @@ fn store_partial(
         result (images chips.now records.old slots.old) (images chips.now records.new slots.new) }
 {
     match free {
-        Found::At(i) => {
+        Some(i) => {
             let e = record_at(records, g, j);
-            let reads = new_partial(work, chips, records, slots, g, j, m, bytes, e);
+            let view = View {
+                g,
+                chips,
+                records,
+                slots,
+            };
+            let reads = new_partial(work, &view, j, m, bytes, e);
             let run = store_slot(slots, g, i, work, reads, p);
             store_record(records, g, j, written(e, m, q, i), run)
         }
-        Found::Nothing => p,
+        None => p,
     }
 }
 
@@ -110,7 +112,7 @@ pub fn write_at(
     m: usize,
     bytes: &[u8],
     q: usize,
-    free: Found,
+    free: Option<usize>,
     p: Progress,
 ) -> Progress
     requires { ChipsFit g chips.old × RecordsFit g records.old × SlotsFit g slots.old × (length work.old ≡ g.w) × (j < g.s) × (m < g.n) × (length bytes.now ≡ g.w)

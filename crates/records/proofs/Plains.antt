@@ -19,9 +19,10 @@ use Rattle.layout.specs.Rotation.{parity_chip, member_on}
 use Rattle.layout.proofs.Records.{bits_of_none}
 use Rattle.layout.proofs.Rotations.{member_on_fits}
 use Rattle.rules.specs.Names.{main_number, side_number}
-use Rattle.rules.specs.Sound.{member_sound, record_sound}
+use Rattle.rules.specs.Sound.{member_sound, record_sound, sound_at}
 use Rattle.codec.specs.Scan.{current_given, Plain}
-use Rattle.codec.specs.Views.{ended}
+use Rattle.codec.specs.declared.StripeRecord.{StripeRecord}
+use Rattle.codec.specs.Views.{record_from, ended}
 use Rattle.names.specs.Stamps.{has_old, record_names, names_on}
 
 -- ---- any record
@@ -30,6 +31,11 @@ use Rattle.names.specs.Stamps.{has_old, record_names, names_on}
 pub ended_sound : (l : Layout) (r : Record) → eqb r.rest 0 && record_sound l (ended r) ≡ record_sound l r
 unfolding record_sound member_sound bit ended
 ended_sound l r = by_test (eqb r.rest 0) (λ t. rw t) (λ t. rw (t, and-false))
+
+-- of one that was read, with the code's two tests
+pub sound_seen : (l : Layout) (r : ℕ → Record) (j : ℕ) (e : StripeRecord) {ends passes : Bool} → record_from l e ≡ ended (r j) → ends ≡ eqb (r j).rest 0
+    → passes ≡ record_sound l (record_from l e) → ends && passes ≡ sound_at l r j
+sound_seen l r j e same ends passes = rw (ends, passes, same) (ended_sound l (r j))
 
 -- ---- one that is plain
 

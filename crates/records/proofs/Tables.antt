@@ -10,6 +10,7 @@ use lib.ListN.{get_or, set, replicate}
 use lib.Dec.{leb, ltb, eqb}
 use borrow.Author.Tests.{ne_eqb, leb-true, lt-ltb, le-ltb, lt-leb, le-leb}
 use Rattle.ranges.specs.Look.{all_below, some_below, count_below, first_below, least_so_far, found_in}
+use Rattle.std.specs.Prelude.{Option}
 use Rattle.ranges.specs.declared.Least.{Least}
 use Rattle.ranges.proofs.Looks.{by_test, by_order, first_cong}
 use Rattle.ranges.proofs.Leasts.{least_passed, found_least}
@@ -37,7 +38,7 @@ use Rattle.records.specs.Slots.{slot_scan, unmarked, Tallied, Adds}
 -- ---- the tally
 
 -- before the first record
-pub tallied_start : {l : Layout} {r : ℕ → Record} {c : Least} → ((f : ℕ → Bool) (m : ℕ → ℕ) → c ≡ least_so_far f m 0)
+pub tallied_start : {l : Layout} {r : ℕ → Record} {c : Option Least} → ((f : ℕ → Bool) (m : ℕ → ℕ) → c ≡ least_so_far f m 0)
     → Tallied l r 0 (record { sound = true; own = true; slotted = 0; cheapest = c })
 unfolding all_below count_below
 tallied_start {l} {r} h = record { sounds = refl; owns = refl; counts = refl; cheap = h (slotted r) (record_cost l r) }
@@ -60,7 +61,7 @@ module _ {l : Layout} {r : ℕ → Record} {j : ℕ} {t : Tally} (h : Tallied l 
       }
 
   -- it has one, which the records before it have or not
-  pub tallied_slot : {ok taken : Bool} {cost : ℕ} {c : Least} → ok ≡ sound_at l r j → (r j).slot ≢ 255 → taken ≡ some_below j (slot_of r (r j).slot)
+  pub tallied_slot : {ok taken : Bool} {cost : ℕ} {c : Option Least} → ok ≡ sound_at l r j → (r j).slot ≢ 255 → taken ≡ some_below j (slot_of r (r j).slot)
       → cost ≡ record_cost l r j
       → ((f : ℕ → Bool) (m : ℕ → ℕ) → t.cheapest ≡ least_so_far f m j → true ≡ f j → (f j ≡ true → cost ≡ m j) → c ≡ least_so_far f m (j + 1))
       → Tallied l r (j + 1) (record { sound = t.sound && ok; own = t.own && not taken; slotted = t.slotted + 1; cheapest = c })

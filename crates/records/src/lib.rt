@@ -20,7 +20,7 @@ use codec::{
 use costs::{cost_of, set_bits};
 use layout::Geometry;
 use names::names_on;
-use ranges::{Found, Least, found_in, no_least, ones, with_next};
+use ranges::{Least, found_in, no_least, ones, with_next};
 
 // Whether the record is sound about member m.
 fn member_passes(g: Geometry, e: StripeRecord, m: usize) -> bool
@@ -51,10 +51,8 @@ fn record_passes(g: Geometry, e: StripeRecord) -> bool
     let most = g.m as usize;
     let pages = (g.b * g.k) as usize;
     let mut members = true;
-    let mut m = 0;
-    while m < 6 {
+    for m in 0..6 {
         members = members & member_passes(g, e, m);
-        m += 1;
     }
     let slot = if e.bitmap == 0 {
         e.slot == NO_SLOT
@@ -69,10 +67,8 @@ fn names_of(e: StripeRecord) -> usize
     ensures { ((g : Geometry) → result ≡ record_names (layout_of g) (record_from (layout_of g) e)) × (result ≤ 13) }
 {
     let mut names: usize = 0;
-    let mut m = 0;
-    while m < 6 {
+    for m in 0..6 {
         names += ones(e.current[m] != NONE) + ones(e.old[m] != NONE);
-        m += 1;
     }
     names + ones(e.parity != NONE)
 }
@@ -102,12 +98,12 @@ pub struct SlotScan {
     // how many records have one
     pub slotted: usize,
     // the stripe of least cost among them
-    pub cheapest: Found,
+    pub cheapest: Option<usize>,
     // the lowest free slot
-    pub free: Found,
+    pub free: Option<usize>,
 }
 
-// What a pass over the records brings.
+// What a pass over the records brings. Names and slots are told of records that are not sound too (`scan_records`).
 #[derive(Clone, Copy)]
 pub struct RecordsScan {
     pub sound: bool,
@@ -116,7 +112,7 @@ pub struct RecordsScan {
     pub slots: SlotScan,
 }
 
-// What is known of the records passed.
+// What is known of the records passed. No option: slots are counted of records that are not sound too.
 #[derive(Clone, Copy)]
 struct Tally {
     // each is sound by itself
@@ -126,10 +122,10 @@ struct Tally {
     // how many have a slot
     slotted: usize,
     // the stripe of least cost among those
-    cheapest: Least,
+    cheapest: Option<Least>,
 }
 
-// The tally before the first record.
+// The tally before the first record. No Default, for its contract says what it begins.
 fn no_tally() -> Tally
     ensures { (g : Geometry) (r : ℕ → Record) → Tallied (layout_of g) r 0 result }
 {
@@ -178,18 +174,16 @@ fn names_lost(records: &[u8], g: Geometry, lost: usize, j: usize) -> usize
 }
 
 // The lowest of the slots 0 to m that is not marked.
-fn lowest_unmarked(marks: &[bool; 256], m: usize) -> Found
+fn lowest_unmarked(marks: &[bool; 256], m: usize) -> Option<usize>
     requires { m ≤ 254 }
     ensures { result ≡ first_below (m + 1) (unmarked marks.now) }
 {
-    let mut i = 0;
-    while i <= m {
+    for i in 0..m + 1 {
         if !marks[i] {
-            return Found::At(i);
+            return Some(i);
         }
-        i += 1;
     }
-    Found::Nothing
+    None
 }
 
 // What the tally of all records and the table of the slots seen tell of the slots 0 to m.
@@ -223,15 +217,14 @@ pub fn scan_records(g: Geometry, records: &[u8], lost: usize) -> RecordsScan
     let mut seen = [false; 256];
     let mut tally = no_tally();
     let mut names: usize = 0;
-    let mut j = 0;
-    while j < s {
+    for j in 0..s {
         if seen_full(records, g, j, &tops) {
             names += full;
         } else {
             let look = glance_at(records, g, j, &tops);
             let gone = names_lost(records, g, lost, j);
-            if look.plain {
-                names += look.names - gone;
+            if let Some(here) = look {
+                names += here - gone;
             } else {
                 let e = record_at(records, g, j);
                 let ends = record_ends(records, g, j);
@@ -242,7 +235,6 @@ pub fn scan_records(g: Geometry, records: &[u8], lost: usize) -> RecordsScan
                 names += names_of(e) - gone;
             }
         }
-        j += 1;
     }
     let sound = tally.sound & tally.own & (tally.slotted <= most) & collection_passes(g, records);
     let slots = slots_told(tally, &seen, most);

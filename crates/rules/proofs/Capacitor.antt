@@ -20,9 +20,8 @@ use Rattle.layout.proofs.Rotations.{parity_chip_fits, page_chip_fits}
 use Rattle.steps.specs.declared.Counts.{Counts}
 use Rattle.steps.specs.Steps.{Step, apply_all, and_then}
 use Rattle.steps.proofs.Prefixes.{every_whole}
-use Rattle.rules.specs.declared.Check.{Check}
-use Rattle.rules.specs.declared.Check.TheVariants.{Passed, Failed}
-use Rattle.rules.specs.Refusals.{checked, write_rows, commit_rows, collect_rows, add_rows}
+use Rattle.rules.specs.Refusals.{Check, checked, write_rows, commit_rows, collect_rows, add_rows}
+use Rattle.std.specs.Prelude.{Ok, Err}
 use Rattle.rules.specs.Open.{finish_steps}
 use Rattle.rules.specs.Collect.{copy_steps, copy_feed, collectable, named_count, victim_of, collect_block, collect_steps}
 use Rattle.rules.specs.Place.{place_of}
@@ -127,29 +126,29 @@ module _ (l : Layout) (u : Usable l) where
       rw length-append (omega (arith, owed_most s f rest j, last))
 
 -- a call that is not refused, and is allowed as many stores as its list has, is done
-enough_done : (l : Layout) (check : Check) (n : Counts) (a : ℕ) (xs : List Step) (s : Images) (o : Outcome) → CutRule l check n a xs s o → (check ≡ Passed → length xs ≤ a)
+enough_done : (l : Layout) (check : Check) (n : Counts) (a : ℕ) (xs : List Step) (s : Images) (o : Outcome) → CutRule l check n a xs s o → (check ≡ Ok tt → length xs ≤ a)
     → verdict o.answer ≢ refused → verdict o.answer ≡ done
 enough_done l check n a xs s o rule allowed taken = by_check check
     (λ e. ap (λ (x : Outcome). verdict x.answer) (rule.finishing e (allowed e)))
     (λ r e. absurd (taken (ap (λ (x : Outcome). verdict x.answer) (rule.refusing r e))))
 
 module _ (l : Layout) (some : 1 ≤ l.D) (narrow : l.D ≤ 4) where
-  write_short : (s : Images) (lost page : ℕ) (xs : List ℕ) → checked (write_rows l s lost page xs) ≡ Passed → length (write_steps l page xs s) ≤ write_needs l
+  write_short : (s : Images) (lost page : ℕ) (xs : List ℕ) → checked (write_rows l s lost page xs) ≡ Ok tt → length (write_steps l page xs s) ≤ write_needs l
   write_short s lost page xs passed =
       let o = (write_accepted l s lost page xs passed).1.settled in write_most l (usable l some narrow o.within) s o.sound o.at_rest page xs
 
-  commit_short : (s : Images) (lost j : ℕ) → checked (commit_rows l s lost j) ≡ Passed → length (commit_steps l j s) ≤ commit_needs l
+  commit_short : (s : Images) (lost j : ℕ) → checked (commit_rows l s lost j) ≡ Ok tt → length (commit_steps l j s) ≤ commit_needs l
   commit_short s lost j passed =
       let o = (commit_accepted l s lost j passed).1.settled in commit_most l (usable l some narrow o.within) s o.sound o.at_rest j
 
-  collect_short : (s : Images) (lost c : ℕ) → checked (collect_rows l s lost c) ≡ Passed → length (collect_steps l c s) ≤ collect_needs l
+  collect_short : (s : Images) (lost c : ℕ) → checked (collect_rows l s lost c) ≡ Ok tt → length (collect_steps l c s) ≤ collect_needs l
   collect_short s lost c passed =
       let h = (collect_accepted l s lost c passed).1 in
       let o = h.settled in
       collect_most l (usable l some narrow o.within) s o.sound o.at_rest c h.chip
 
   -- an addition is a write of the page that it falls in
-  add_short : (s : Images) (lost : ℕ) (ticket : List ℕ) → checked (add_rows l s lost ticket) ≡ Passed → length (add_steps l lost ticket s) ≤ write_needs l
+  add_short : (s : Images) (lost : ℕ) (ticket : List ℕ) → checked (add_rows l s lost ticket) ≡ Ok tt → length (add_steps l lost ticket s) ≤ write_needs l
   unfolding add_steps
   add_short s lost ticket passed =
       let o = (add_accepted l s lost ticket passed).1.settled in
@@ -159,8 +158,8 @@ module _ (l : Layout) (some : 1 ≤ l.D) (narrow : l.D ≤ 4) where
   rules = cut_rules l
 
   query_enough : (check : Check) → query_verdict check ≢ refused → query_verdict check ≡ done
-  query_enough Passed taken = refl
-  query_enough (Failed r) taken = absurd (taken refl)
+  query_enough (Ok tt) taken = refl
+  query_enough (Err r) taken = absurd (taken refl)
 
   enough : (call : Call) (s : Images) → needs l call ≤ allowance_of call → (ended l call s).verdict ≢ refused → (ended l call s).verdict ≡ done
   unfolding needs ended

@@ -9,7 +9,7 @@ use lib.ListN.{length}
 use lib.Seq.{take_all}
 use lib.Dec.{lit≤, eqb}
 use borrow.Author.Tests.{eqb-true, eqb-false, ltb-true, ltb-false}
-use Rattle.ranges.specs.declared.Found.TheVariants.{At, Nothing}
+use Rattle.std.specs.Prelude.{Some, None, Ok, Err}
 use Rattle.ranges.proofs.Looks.{by_test}
 use Rattle.layout.specs.declared.Geometry.{Geometry}
 use Rattle.layout.specs.Layout.{Layout, layout_of, no_chip, limits}
@@ -22,13 +22,11 @@ use Rattle.layout.proofs.Limits.{Within, within}
 use Rattle.steps.specs.declared.Counts.{Counts}
 use Rattle.steps.specs.Steps.{Step, no_counts, made, is_cut, apply_all, reading}
 use Rattle.steps.proofs.Prefixes.{EndsIn, Every, every_nil, Closes}
-use Rattle.rules.specs.declared.Check.{Check}
-use Rattle.rules.specs.declared.Check.TheVariants.{Passed, Failed}
+use Rattle.rules.specs.Refusals.{Check, checked, records_check, spares_check, images_rows, write_rows, commit_rows, collect_rows, add_rows, lost_named, find_rows}
 use Rattle.rules.specs.declared.Origin.{Origin}
 use Rattle.rules.specs.declared.Origin.TheVariants.{Direct}
 use Rattle.rules.specs.Blocks.{lowest_clean_block}
 use Rattle.rules.specs.Sound.{records_sound, chip_sound, is_lost}
-use Rattle.rules.specs.Refusals.{checked, records_check, spares_check, images_rows, write_rows, commit_rows, collect_rows, add_rows, lost_named, find_rows}
 use Rattle.rules.specs.Format.{format_steps}
 use Rattle.rules.specs.Open.{open_steps}
 use Rattle.rules.specs.Collect.{victim_of, collect_steps}
@@ -76,25 +74,25 @@ module _ (l : Layout) where
   -- Soundness is kept: by every prefix of the list of every call but format that is not refused, and by a format's whole list.
   pub record SoundnessKept : Type 0 where
     pub format : (s : Images) → limits l ≡ true → lengths l s ≡ true → Sound l (apply_all l (format_steps l) s)
-    pub open_call_lem : (s : Images) (lost : ℕ) → checked (images_rows l s lost) ≡ Passed → Every l (SoundBut l (is_lost lost)) (open_steps l lost s) s
-    pub write : (s : Images) (lost page : ℕ) (xs : List ℕ) → checked (write_rows l s lost page xs) ≡ Passed → Every l (Sound l) (write_steps l page xs s) s
-    pub commit : (s : Images) (lost j : ℕ) → checked (commit_rows l s lost j) ≡ Passed → Every l (Sound l) (commit_steps l j s) s
-    pub collect : (s : Images) (lost c : ℕ) → checked (collect_rows l s lost c) ≡ Passed → Every l (Sound l) (collect_steps l c s) s
-    pub add : (s : Images) (lost : ℕ) (ticket : List ℕ) → checked (add_rows l s lost ticket) ≡ Passed → Every l (Sound l) (add_steps l lost ticket s) s
+    pub open_call_lem : (s : Images) (lost : ℕ) → checked (images_rows l s lost) ≡ Ok tt → Every l (SoundBut l (is_lost lost)) (open_steps l lost s) s
+    pub write : (s : Images) (lost page : ℕ) (xs : List ℕ) → checked (write_rows l s lost page xs) ≡ Ok tt → Every l (Sound l) (write_steps l page xs s) s
+    pub commit : (s : Images) (lost j : ℕ) → checked (commit_rows l s lost j) ≡ Ok tt → Every l (Sound l) (commit_steps l j s) s
+    pub collect : (s : Images) (lost c : ℕ) → checked (collect_rows l s lost c) ≡ Ok tt → Every l (Sound l) (collect_steps l c s) s
+    pub add : (s : Images) (lost : ℕ) (ticket : List ℕ) → checked (add_rows l s lost ticket) ≡ Ok tt → Every l (Sound l) (add_steps l lost ticket s) s
 
   -- Room: in sound images at rest nothing is looked for in vain.
   pub record RoomIn (s : Images) : Type 0 where
-    pub place : (c : ℕ) → c ≤ N → place_of l (page_at l s.chips c) ≡ Nothing
-        → (v : ℕ) × (victim_of l c (page_at l s.chips c) (record_at l s.records) ≡ At v)
-        × (p : ℕ) × (place_of l (page_at l (apply_all l (collect_steps l c s) s).chips c) ≡ At p)
-    pub destination : (c : ℕ) → c ≤ N → (d : ℕ) × (lowest_clean_block l (page_at l s.chips c) ≡ At d)
-    pub slot : (i : ℕ) × (lowest_free_slot l (record_at l s.records) ≡ At i)
-    pub stripe : (j : ℕ) → commit_owed l (record_at l s.records) j ≡ true → (k : ℕ) × (cheapest l (record_at l s.records) ≡ At k)
+    pub place : (c : ℕ) → c ≤ N → place_of l (page_at l s.chips c) ≡ None
+        → (v : ℕ) × (victim_of l c (page_at l s.chips c) (record_at l s.records) ≡ Some v)
+        × (p : ℕ) × (place_of l (page_at l (apply_all l (collect_steps l c s) s).chips c) ≡ Some p)
+    pub destination : (c : ℕ) → c ≤ N → (d : ℕ) × (lowest_clean_block l (page_at l s.chips c) ≡ Some d)
+    pub slot : (i : ℕ) × (lowest_free_slot l (record_at l s.records) ≡ Some i)
+    pub stripe : (j : ℕ) → commit_owed l (record_at l s.records) j ≡ true → (k : ℕ) × (cheapest l (record_at l s.records) ≡ Some k)
     -- "No write is refused for want of space."
-    pub accepted : (page : ℕ) (xs : List ℕ) → page < N * S → length xs ≡ W → checked (write_rows l s no_chip page xs) ≡ Passed
+    pub accepted : (page : ℕ) (xs : List ℕ) → page < N * S → length xs ≡ W → checked (write_rows l s no_chip page xs) ≡ Ok tt
     -- nor an addition, where the ticket and the log are sound and the log has an end
     pub adds_accepted : (ticket : List ℕ) → length ticket ≡ ticket_bytes → ticket_sound (ticket_of ticket) ≡ true → log_sound l (contents l s no_chip) ≡ true
-        → (t : ℕ) → log_end l (contents l s no_chip) ≡ At t → checked (add_rows l s no_chip ticket) ≡ Passed
+        → (t : ℕ) → log_end l (contents l s no_chip) ≡ Some t → checked (add_rows l s no_chip ticket) ≡ Ok tt
     -- no list stops short: that of a write and that of a commit end in the record that they are for
     pub writes : (page : ℕ) (xs : List ℕ) → page < N * S → length xs ≡ W
         → EndsIn (StoresRecord (stripe_of l page)) (write_steps l page xs s) × Wrote l page xs s (apply_all l (write_steps l page xs s) s)
@@ -129,11 +127,11 @@ module _ (l : Layout) where
     pub reading_back : (s : Images) (lost page : ℕ) (xs : List ℕ) (a : ℕ)
         → ReadsBack s page xs (verdict (write_call l s lost page xs a).answer) (write_call l s lost page xs a).images
     -- an addition is read back as the write of the page that it falls in
-    pub adding_back : (s : Images) (lost : ℕ) (ticket : List ℕ) (a t : ℕ) → log_end l (contents l s lost) ≡ At t
+    pub adding_back : (s : Images) (lost : ℕ) (ticket : List ℕ) (a t : ℕ) → log_end l (contents l s lost) ≡ Some t
         → ReadsBack s (falls_in l t) (with_ticket l (contents l s lost) ticket t) (verdict (add_call l s lost ticket a).answer) (add_call l s lost ticket a).images
     -- in images that are sound but for the lost chip, a question is refused exactly where a ticket of the log breaks the rules
     pub questions : limits l ≡ true → (s : Images) (lost : ℕ) → lost_named l lost ≡ true → SoundBut l (is_lost lost) s
-        → (checked (find_rows l s lost) ≡ Passed) ↔ (log_sound l (contents l s lost) ≡ true)
+        → (checked (find_rows l s lost) ≡ Ok tt) ↔ (log_sound l (contents l s lost) ≡ true)
     pub cut_rule : CutRules l
     pub demand_3 : Demand3 l
     -- over the same lists, every read says how its page was got
@@ -153,7 +151,7 @@ module _ (l : Layout) (some : 1 ≤ l.D) (narrow : l.D ≤ 4) where
   in_limits : Within l → Usable l
   in_limits = usable l some narrow
 
-  open_kept : (s : Images) (lost : ℕ) → checked (images_rows l s lost) ≡ Passed → Every l (SoundBut l (is_lost lost)) (open_steps l lost s) s
+  open_kept : (s : Images) (lost : ℕ) → checked (images_rows l s lost) ≡ Ok tt → Every l (SoundBut l (is_lost lost)) (open_steps l lost s) s
   open_kept s lost passed k =
       let o = images_accepted l s lost passed in
       by_test (eqb lost no_chip)
@@ -241,15 +239,15 @@ module _ (l : Layout) (some : 1 ≤ l.D) (narrow : l.D ≤ 4) where
           }
 
     reads_back_by : (L : Step → Type 0) (check : Check) (n : Counts) (a : ℕ) (steps : Images → List Step)
-        → (check ≡ Passed → WriteAccepted l s page xs × Closes l (Carries l) (Wrote l page xs) L (steps s) s)
+        → (check ≡ Ok tt → WriteAccepted l s page xs × Closes l (Carries l) (Wrote l page xs) L (steps s) s)
         → ReadsBack l s page xs (verdict (outcome l check n a steps s).answer) (outcome l check n a steps s).images
     unfolding run
-    reads_back_by L Passed n a steps h =
+    reads_back_by L (Ok tt) n a steps h =
         let (o, ends) = h refl in
         by_test (is_cut a (steps s))
         (λ e. rw e (cut_back o L (steps s) ends a (ltb-true a (length (steps s)) e)))
         (λ e. rw (e, take_all a (steps s) (ltb-false a (length (steps s)) e)) (done_back o L (steps s) ends))
-    reads_back_by L (Failed r) n a steps h = refused_back
+    reads_back_by L (Err r) n a steps h = refused_back
 
   -- from any sound images: a write that is not refused has been given some
   pub reads_back : (s : Images) (lost page : ℕ) (xs : List ℕ) (a : ℕ)
@@ -259,7 +257,7 @@ module _ (l : Layout) (some : 1 ≤ l.D) (narrow : l.D ≤ 4) where
       reads_back_by s page xs (StoresRecord (stripe_of l page)) (checked (write_rows l s lost page xs)) no_counts a (write_steps l page xs)
       (λ passed. let o = (write_accepted l s lost page xs passed).1 in (o, write_ends l (in_limits o.settled.within) s page xs o))
 
-  pub adds_back : (s : Images) (lost : ℕ) (ticket : List ℕ) (a t : ℕ) → log_end l (contents l s lost) ≡ At t
+  pub adds_back : (s : Images) (lost : ℕ) (ticket : List ℕ) (a t : ℕ) → log_end l (contents l s lost) ≡ Some t
       → ReadsBack l s (falls_in l t) (with_ticket l (contents l s lost) ticket t) (verdict (add_call l s lost ticket a).answer) (add_call l s lost ticket a).images
   unfolding add_call
   adds_back s lost ticket a t end =

@@ -1,6 +1,5 @@
 -- The blocks of one chip; x gives the chip's pages.
-use Rattle.std.specs.Prelude.{ℕ, ◌+◌, ◌-◌, Bool, not, ◌||◌}
-use Rattle.ranges.specs.declared.Found.{Found}
+use Rattle.std.specs.Prelude.{ℕ, ◌+◌, ◌-◌, Bool, not, ◌||◌, Option}
 use Rattle.ranges.specs.Look.{all_below, first_below}
 use Rattle.layout.specs.Layout.{Layout, page_in}
 use Rattle.layout.specs.Page.{Page, clean}
@@ -43,5 +42,5 @@ module _ (l : Layout) where
   ordered_block x b = all_below (K - 1) (in_order x b)
 
   -- "the lowest clean block"
-  unfoldable pub lowest_clean_block : (ℕ → Page) → Found
+  unfoldable pub lowest_clean_block : (ℕ → Page) → Option ℕ
   lowest_clean_block x = first_below B (clean_block x)

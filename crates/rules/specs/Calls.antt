@@ -1,20 +1,16 @@
 -- Document 01, "The calls, store by store": the outcome of each call, its answer and every byte of the images.
-use Rattle.std.specs.Prelude.{ℕ, cond, List}
+use Rattle.std.specs.Prelude.{Result, ℕ, cond, List, Ok, Err, Option, None}
+use Rattle.rules.specs.declared.Refusal.{Refusal}
 use Rattle.layout.specs.Layout.{Layout}
 use Rattle.layout.specs.Images.{Images}
 use Rattle.steps.specs.declared.Counts.{Counts}
 use Rattle.steps.specs.Steps.{Step, made, is_cut, no_counts, reading, counted_all, apply_all}
-use Rattle.rules.specs.declared.Check.{Check}
-use Rattle.rules.specs.declared.Check.TheVariants.{Passed, Failed}
+use Rattle.rules.specs.Refusals.{Check, Row, refusal_number, checked, buffers_rows, images_rows, read_rows, write_rows, commit_rows, collect_rows, find_rows, add_rows}
 use Rattle.rules.specs.declared.Answer.{Answer}
-use Rattle.rules.specs.declared.Answer.TheVariants.{Done, Cut, Refused}
+use Rattle.rules.specs.declared.Answer.TheVariants.{Done, Cut}
 use Rattle.rules.specs.declared.Reading.{Reading}
-use Rattle.rules.specs.declared.Reading.TheVariants.{Done as ReadDone, Refused as ReadRefused}
-use Rattle.rules.specs.declared.Standing.{Standing}
-use Rattle.rules.specs.declared.Standing.TheVariants.{Nothing}
+use Rattle.rules.specs.declared.Weight.{Weight}
 use Rattle.rules.specs.declared.Finding.{Finding}
-use Rattle.rules.specs.declared.Finding.TheVariants.{Done as FindDone, Refused as FindRefused}
-use Rattle.rules.specs.Refusals.{Row, refusal_number, checked, buffers_rows, images_rows, read_rows, write_rows, commit_rows, collect_rows, find_rows, add_rows}
 use Rattle.rules.specs.Open.{open_steps}
 use Rattle.rules.specs.Collect.{collect_steps}
 use Rattle.rules.specs.Commit.{commit_steps}
@@ -27,64 +23,64 @@ use Rattle.rules.specs.Log.{contents, origins, log_reads, standing, log_origin, 
 
 -- the answer of a call that stores, and every byte of the images after it
 pub record Outcome : Type 0 where
-  pub answer : Answer
+  pub answer : Result Answer Refusal
   pub images : Images
 
 -- the answer of a read, and its buffer; it changes no image
 pub record ReadOutcome : Type 0 where
-  pub answer : Reading
+  pub answer : Result Reading Refusal
   pub buffer : List ℕ
 
 -- The number of an answer: 0 for done, 255 for cut, and a refusal's own of the table.
-abbrev pub status_of : Answer → ℕ
-status_of (Done n) = 0
-status_of (Cut n) = 255
-status_of (Refused r) = refusal_number r
+abbrev pub status_of : Result Answer Refusal → ℕ
+status_of (Ok (Done n)) = 0
+status_of (Ok (Cut n)) = 255
+status_of (Err r) = refusal_number r
 
 -- its counts; of a refusal, "counts zero"
-abbrev pub counts_of : Answer → Counts
-counts_of (Done n) = n
-counts_of (Cut n) = n
-counts_of (Refused r) = no_counts
+abbrev pub counts_of : Result Answer Refusal → Counts
+counts_of (Ok (Done n)) = n
+counts_of (Ok (Cut n)) = n
+counts_of (Err r) = no_counts
 
 -- the same of a read
-abbrev pub read_status_of : Reading → ℕ
-read_status_of (ReadDone n o) = 0
-read_status_of (ReadRefused r) = refusal_number r
+abbrev pub read_status_of : Result Reading Refusal → ℕ
+read_status_of (Ok x) = 0
+read_status_of (Err r) = refusal_number r
 
 -- the same of a read
-abbrev pub read_counts_of : Reading → Counts
-read_counts_of (ReadDone n o) = n
-read_counts_of (ReadRefused r) = no_counts
+abbrev pub read_counts_of : Result Reading Refusal → Counts
+read_counts_of (Ok x) = x.counts
+read_counts_of (Err r) = no_counts
 
 -- the number of how its page was got; of a refusal 0
-abbrev pub read_origin_of : Reading → ℕ
-read_origin_of (ReadDone n o) = origin_number o
-read_origin_of (ReadRefused r) = 0
+abbrev pub read_origin_of : Result Reading Refusal → ℕ
+read_origin_of (Ok x) = origin_number x.origin
+read_origin_of (Err r) = 0
 
 -- the same of a question
-abbrev pub find_status_of : Finding → ℕ
-find_status_of (FindDone n x o) = 0
-find_status_of (FindRefused r) = refusal_number r
+abbrev pub find_status_of : Result Finding Refusal → ℕ
+find_status_of (Ok x) = 0
+find_status_of (Err r) = refusal_number r
 
 -- the same of a question
-abbrev pub find_counts_of : Finding → Counts
-find_counts_of (FindDone n x o) = n
-find_counts_of (FindRefused r) = no_counts
+abbrev pub find_counts_of : Result Finding Refusal → Counts
+find_counts_of (Ok x) = x.counts
+find_counts_of (Err r) = no_counts
 
 -- what it gives; of a refusal nothing
-abbrev pub find_standing_of : Finding → Standing
-find_standing_of (FindDone n x o) = x
-find_standing_of (FindRefused r) = Nothing
+abbrev pub find_standing_of : Result Finding Refusal → Option Weight
+find_standing_of (Ok x) = x.standing
+find_standing_of (Err r) = None
 
 -- the number of how it was got, as of a read
-abbrev pub find_origin_of : Finding → ℕ
-find_origin_of (FindDone n x o) = origin_number o
-find_origin_of (FindRefused r) = 0
+abbrev pub find_origin_of : Result Finding Refusal → ℕ
+find_origin_of (Ok x) = origin_number x.origin
+find_origin_of (Err r) = 0
 
 -- a read that is done: the pages read, how its page was got, and what they gave
 abbrev pub read_into : Fetched → ReadOutcome
-read_into x = record { answer = ReadDone (reading x.reads) x.origin; buffer = x.bytes }
+read_into x = record { answer = Ok (record { counts = reading x.reads; origin = x.origin }); buffer = x.bytes }
 
 module _ (l : Layout) where
   -- "If the list is longer than the allowance it stops there and answers cut with the counts so far; otherwise done."
@@ -93,16 +89,17 @@ module _ (l : Layout) where
   run before allowance xs s =
       record {
         answer =
-            cond (is_cut allowance xs)
+            Ok
+            (cond (is_cut allowance xs)
             (Cut (counted_all (made allowance xs) before))
-            (Done (counted_all (made allowance xs) before));
+            (Done (counted_all (made allowance xs) before)));
         images = apply_all l (made allowance xs) s;
       }
 
   -- a call that passed its checks makes its list; "the first that applies is returned, counts zero, all buffers unchanged"
   abbrev pub outcome : Check → Counts → ℕ → (Images → List Step) → Images → Outcome
-  outcome Passed before allowance steps s = run before allowance (steps s) s
-  outcome (Failed r) before allowance steps s = record { answer = Refused r; images = s }
+  outcome (Ok tt) before allowance steps s = run before allowance (steps s) s
+  outcome (Err r) before allowance steps s = record { answer = Err r; images = s }
 
   -- format: images, allowance
   unfoldable pub format_call : Images → ℕ → Outcome
@@ -127,8 +124,8 @@ module _ (l : Layout) where
 
   -- a read refused leaves its buffer
   abbrev pub read_outcome : Check → Images → ℕ → ℕ → List ℕ → ReadOutcome
-  read_outcome Passed s lost page buffer = read_into (fetch l s lost page)
-  read_outcome (Failed r) s lost page buffer = record { answer = ReadRefused r; buffer = buffer }
+  read_outcome (Ok tt) s lost page buffer = read_into (fetch l s lost page)
+  read_outcome (Err r) s lost page buffer = record { answer = Err r; buffer = buffer }
 
   -- read: images, lost chip, page, buffer
   unfoldable pub read_call : Images → ℕ → ℕ → List ℕ → ReadOutcome
@@ -140,14 +137,18 @@ module _ (l : Layout) where
       outcome (checked (add_rows l s lost ticket)) (reading (log_reads l s lost)) allowance (add_steps l lost ticket) s
 
   -- a question is answered from the log
-  abbrev pub find_outcome : Check → Images → ℕ → ℕ → ℕ → Finding
-  find_outcome Passed s lost lot bag =
-      FindDone (reading (log_reads l s lost)) (standing l (contents l s lost) lot bag)
-      (log_origin l (contents l s lost) (origins l s lost) lot bag)
-  find_outcome (Failed r) s lost lot bag = FindRefused r
+  abbrev pub find_outcome : Check → Images → ℕ → ℕ → ℕ → Result Finding Refusal
+  find_outcome (Ok tt) s lost lot bag =
+      Ok
+      (record {
+        counts = reading (log_reads l s lost);
+        standing = standing l (contents l s lost) lot bag;
+        origin = log_origin l (contents l s lost) (origins l s lost) lot bag;
+      })
+  find_outcome (Err r) s lost lot bag = Err r
 
   -- find: images, lost chip, lot, bag; it changes no byte
-  unfoldable pub find_call : Images → ℕ → ℕ → ℕ → Finding
+  unfoldable pub find_call : Images → ℕ → ℕ → ℕ → Result Finding Refusal
   find_call s lost lot bag = find_outcome (checked (find_rows l s lost)) s lost lot bag
 
 -- A call that only reads, with "each call's arguments but the images".
@@ -190,15 +191,15 @@ pub data Verdict : Type 0 where
   done cut refused : Verdict
 
 -- of a call that stores
-abbrev pub verdict : Answer → Verdict
-verdict (Done n) = done
-verdict (Cut n) = cut
-verdict (Refused r) = refused
+abbrev pub verdict : Result Answer Refusal → Verdict
+verdict (Ok (Done n)) = done
+verdict (Ok (Cut n)) = cut
+verdict (Err r) = refused
 
 -- of a query, which is never cut: what its rows come to
 abbrev pub query_verdict : Check → Verdict
-query_verdict Passed = done
-query_verdict (Failed r) = refused
+query_verdict (Ok tt) = done
+query_verdict (Err r) = refused
 
 -- what is seen of a call from outside: its verdict, and the images that it leaves to the next
 pub record Ended : Type 0 where

@@ -1,8 +1,7 @@
 -- Document 02, request 3, "How big a capacitor": the stores that a call needs. "They count the stores of document 01's lists."
-use Rattle.std.specs.Prelude.{ℕ, ◌+◌, ◌*◌, ◌≤◌, ◌≡◌, ◌≢◌, List, length}
+use Rattle.std.specs.Prelude.{ℕ, ◌+◌, ◌*◌, ◌≤◌, ◌≡◌, ◌≢◌, List, length, Ok}
 use Rattle.layout.specs.Layout.{Layout}
 use Rattle.layout.specs.Images.{Images}
-use Rattle.rules.specs.declared.Check.TheVariants.{Passed}
 use Rattle.rules.specs.Refusals.{checked, write_rows, commit_rows, collect_rows, add_rows}
 use Rattle.rules.specs.Open.{open_steps}
 use Rattle.rules.specs.Collect.{collect_steps}
@@ -56,15 +55,15 @@ module _ (l : Layout) where
   -- No list of a call that is not refused, and so is made from sound images, is longer; and a call that is allowed so many is done.
   pub record StoresNeeded : Type 0 where
     pub write :
-        (s : Images) (lost page : ℕ) (xs : List ℕ) → checked (write_rows l s lost page xs) ≡ Passed
+        (s : Images) (lost page : ℕ) (xs : List ℕ) → checked (write_rows l s lost page xs) ≡ Ok tt
         → length (write_steps l page xs s) ≤ write_needs
     pub commit :
-        (s : Images) (lost j : ℕ) → checked (commit_rows l s lost j) ≡ Passed → length (commit_steps l j s) ≤ commit_needs
+        (s : Images) (lost j : ℕ) → checked (commit_rows l s lost j) ≡ Ok tt → length (commit_steps l j s) ≤ commit_needs
     pub collect :
-        (s : Images) (lost c : ℕ) → checked (collect_rows l s lost c) ≡ Passed
+        (s : Images) (lost c : ℕ) → checked (collect_rows l s lost c) ≡ Ok tt
         → length (collect_steps l c s) ≤ collect_needs
     pub add :
-        (s : Images) (lost : ℕ) (ticket : List ℕ) → checked (add_rows l s lost ticket) ≡ Passed
+        (s : Images) (lost : ℕ) (ticket : List ℕ) → checked (add_rows l s lost ticket) ≡ Ok tt
         → length (add_steps l lost ticket s) ≤ write_needs
     pub open_call_lem : (s : Images) (lost : ℕ) → length (open_steps l lost s) ≤ open_needs
     pub format : length (format_steps l) ≡ format_needs

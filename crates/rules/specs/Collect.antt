@@ -1,6 +1,5 @@
 -- Document 01, "Collect".
-use Rattle.std.specs.Prelude.{ℕ, Bool, cond, ◌&&◌, List, [], ◌∷◌, ◌++◌}
-use Rattle.ranges.specs.declared.Found.{Found}
+use Rattle.std.specs.Prelude.{ℕ, Bool, cond, ◌&&◌, List, [], ◌∷◌, ◌++◌, Option}
 use Rattle.ranges.specs.Look.{some_below, count_below, least_below, when_found}
 use Rattle.layout.specs.Layout.{Layout, page_in}
 use Rattle.layout.specs.Page.{Page, blank_tail, page_at}
@@ -38,7 +37,7 @@ module _ (l : Layout) where
     named_count b = count_below K (named_in l r c b)
 
     -- "that has fewest pages named by records .., lowest on ties"
-    unfoldable pub victim_of : Found
+    unfoldable pub victim_of : Option ℕ
     victim_of = least_below B collectable named_count
 
   -- the pages of chip c are x, as copies they are fed with `page`, and the records are r

@@ -1,6 +1,5 @@
 -- Document 01: the cost of a commit, and the stripe of least cost.
-use Rattle.std.specs.Prelude.{ℕ, ◌+◌, ◌-◌, ◌/◌, Bool, cond, leb}
-use Rattle.ranges.specs.declared.Found.{Found}
+use Rattle.std.specs.Prelude.{ℕ, ◌+◌, ◌-◌, ◌/◌, Bool, cond, leb, Option}
 use Rattle.ranges.specs.Look.{count_below, least_below}
 use Rattle.layout.specs.Layout.{Layout}
 use Rattle.layout.specs.Record.{Record, bit, slotted}
@@ -25,5 +24,5 @@ module _ (l : Layout) where
   record_cost r j = cost_of N (set_bits (r j))
 
   -- "the stripe of least cost, lowest number on ties"
-  unfoldable pub cheapest : (ℕ → Record) → Found
+  unfoldable pub cheapest : (ℕ → Record) → Option ℕ
   cheapest r = least_below S (slotted r) (record_cost r)

@@ -1,5 +1,6 @@
 -- Demand 3 as one statement, in the terms of document 01, "The price book".
-use Rattle.std.specs.Prelude.{ℕ, ◌*◌, ◌≤◌, ◌<◌, ◌≡◌, Bool, false, cond, List, [], ◌∷◌, length, eqb}
+use Rattle.std.specs.Prelude.{Result, ℕ, ◌*◌, ◌≤◌, ◌<◌, ◌≡◌, Bool, false, cond, List, [], ◌∷◌, length, eqb, Ok, Err}
+use Rattle.rules.specs.declared.Refusal.{Refusal}
 use Rattle.octets.specs.Units.{unit_put}
 use Rattle.layout.specs.Layout.{Layout, no_chip, chip_bytes}
 use Rattle.layout.specs.Rotation.{member_chip, member_of, stripe_of}
@@ -8,9 +9,7 @@ use Rattle.layout.specs.Images.{Images}
 use Rattle.steps.specs.declared.Counts.{Counts}
 use Rattle.rules.specs.declared.Refusal.TheVariants.{Tickets}
 use Rattle.rules.specs.declared.Origin.{Origin}
-use Rattle.rules.specs.declared.Reading.TheVariants.{Done as ReadDone}
 use Rattle.rules.specs.declared.Finding.{Finding}
-use Rattle.rules.specs.declared.Finding.TheVariants.{Done as FindDone, Refused as FindRefused}
 use Rattle.rules.specs.Origins.{origin_by}
 use Rattle.rules.specs.Log.{log_sound, standing, log_origin}
 use Rattle.rules.specs.Calls.{ReadOutcome, Call, lost_chip, done, verdict, ended, format_call, read_call, find_call}
@@ -64,7 +63,7 @@ module _ (l : Layout) where
   ReadGives s lost i o ys =
       (buffer : List ℕ) → length buffer ≡ W
       → (n : Counts)
-      × (◌≡◌ {A = ReadOutcome} (read_call l s lost i buffer) (record { answer = ReadDone n o; buffer = ys }))
+      × (◌≡◌ {A = ReadOutcome} (read_call l s lost i buffer) (record { answer = Ok (record { counts = n; origin = o }); buffer = ys }))
 
   -- "the read of each logical page below N × S that names that chip, into a buffer of W bytes, is not refused, and the
   -- buffer equals the book's page"
@@ -85,11 +84,11 @@ module _ (l : Layout) where
 
   -- document 02, 1, of the book's log, with these counts: "the one standing if it is a weight, else none"; refused "with 11" where a ticket
   -- "found before the log's end" breaks the rules. And document 02, 2: how its pages were got.
-  abbrev pub book_finding : Counts → ℕ → World → ℕ → ℕ → Finding
+  abbrev pub book_finding : Counts → ℕ → World → ℕ → ℕ → Result Finding Refusal
   book_finding n lost x lot bag =
       cond (log_sound l x.book)
-      (FindDone n (standing l x.book lot bag) (log_origin l x.book (origin_owed lost x) lot bag))
-      (FindRefused Tickets)
+      (Ok (record { counts = n; standing = standing l x.book lot bag; origin = log_origin l x.book (origin_owed lost x) lot bag }))
+      (Err Tickets)
 
   -- each question for a lot and bag that names that chip is answered so
   abbrev pub FindsTheBook : ℕ → World → Type 0

@@ -1,15 +1,13 @@
 -- Document 02, 1, "Tickets inside the pages": the log, over any function f from a logical page to its bytes. What a store reads is one, the
 -- price book another.
-use Rattle.std.specs.Prelude.{ℕ, ◌+◌, ◌*◌, ◌/◌, ◌%◌, Bool, true, false, List, []}
-use Rattle.ranges.specs.declared.Found.{Found}
+use Rattle.std.specs.Prelude.{ℕ, ◌+◌, ◌*◌, ◌/◌, ◌%◌, Bool, true, false, List, [], Option, Some, None}
 use Rattle.ranges.specs.Look.{all_below, first_below, last_below, sum_below, when_found}
 use Rattle.octets.specs.Units.{unit, unit_put}
 use Rattle.layout.specs.Layout.{Layout}
 use Rattle.layout.specs.Images.{Images}
 use Rattle.steps.specs.Steps.{Step}
 use Rattle.rules.specs.declared.Ticket.{Ticket}
-use Rattle.rules.specs.declared.Standing.{Standing}
-use Rattle.rules.specs.declared.Standing.TheVariants.{Weighed, Nothing}
+use Rattle.rules.specs.declared.Weight.{Weight}
 use Rattle.rules.specs.declared.Origin.{Origin}
 use Rattle.rules.specs.declared.Origin.TheVariants.{Unwritten}
 use Rattle.rules.specs.Read.{fetch}
@@ -18,9 +16,9 @@ use Rattle.rules.specs.Write.{write_steps}
 use Rattle.rules.specs.Tickets.{ticket_bytes, ticket_of, is_empty, ticket_sound, is_for, weight_of}
 
 -- a ticket that is given carries the one, "any other reading of the log" the other
-abbrev pub carried : Standing → Origin → Origin → Origin
-carried (Weighed w) its any = its
-carried Nothing its any = any
+abbrev pub carried : Option Weight → Origin → Origin → Origin
+carried (Some w) its any = its
+carried None its any = any
 
 module _ (l : Layout) where
   open l use {N, W, S}
@@ -47,7 +45,7 @@ module _ (l : Layout) where
     ticket_at t = ticket_of (bytes_at t)
 
     -- "the log ends at the first of kind 0"
-    unfoldable pub log_end : Found
+    unfoldable pub log_end : Option ℕ
     log_end = first_below places (λ t. is_empty (ticket_at t))
 
     -- the tickets before the end; "a log that fills every page" has no end
@@ -63,12 +61,12 @@ module _ (l : Layout) where
     log_open = when_found log_end (λ t. true) false
 
     -- "Of tickets with one lot and bag, the latest in the log stands"
-    unfoldable pub latest : ℕ → ℕ → Found
+    unfoldable pub latest : ℕ → ℕ → Option ℕ
     latest lot bag = last_below log_length (λ t. is_for lot bag (ticket_at t))
 
     -- "asked for lot and bag, the store gives the one standing if it is a weight, else none"
-    unfoldable pub standing : ℕ → ℕ → Standing
-    standing lot bag = when_found (latest lot bag) (λ t. weight_of (ticket_at t)) Nothing
+    unfoldable pub standing : ℕ → ℕ → Option Weight
+    standing lot bag = when_found (latest lot bag) (λ t. weight_of (ticket_at t)) None
 
     -- "each page up to and including the log's end"
     unfoldable pub log_pages : ℕ

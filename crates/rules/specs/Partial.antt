@@ -1,7 +1,6 @@
 -- Document 01, "Write": the new partial parity, and what a write of member m of stripe j stores at its place.
-use Rattle.std.specs.Prelude.{ℕ, ◌+◌, ◌^◌, Bool, not, cond, List, [], ◌∷◌}
+use Rattle.std.specs.Prelude.{ℕ, ◌+◌, ◌^◌, Bool, not, cond, List, [], ◌∷◌, Option}
 use Rattle.std.specs.Int.Bits.{bit_or}
-use Rattle.ranges.specs.declared.Found.{Found}
 use Rattle.ranges.specs.Look.{some_below, first_below, when_found}
 use Rattle.ranges.specs.Update.{at}
 use Rattle.layout.specs.Layout.{Layout, none}
@@ -28,7 +27,7 @@ module _ (l : Layout) where
   free_slot r i = not (some_below S (slot_of r i))
 
   -- "the lowest free slot"
-  unfoldable pub lowest_free_slot : (ℕ → Record) → Found
+  unfoldable pub lowest_free_slot : (ℕ → Record) → Option ℕ
   lowest_free_slot r = first_below (M + 1) (free_slot r)
 
   -- with the pages in their roles and the bytes of the slot: "the new partial parity: the data; or partial ⊕ data;

@@ -1,5 +1,5 @@
 -- Document 01, "Where a call is turned back": "Checked from top to bottom; the first that applies is returned".
-use Rattle.std.specs.Prelude.{ℕ, ◌*◌, Bool, true, false, ◌||◌, List, [], ◌∷◌, ◌++◌, length, leb, ltb, eqb}
+use Rattle.std.specs.Prelude.{⊤, Result, ℕ, ◌*◌, Bool, true, false, ◌||◌, List, [], ◌∷◌, ◌++◌, length, leb, ltb, eqb, Ok, Err}
 use Rattle.ranges.specs.Look.{when_found}
 use Rattle.layout.specs.Layout.{Layout, no_chip, limits}
 use Rattle.layout.specs.Page.{page_at}
@@ -8,8 +8,6 @@ use Rattle.layout.specs.Collection.{collection_at}
 use Rattle.layout.specs.Images.{Images, lengths}
 use Rattle.rules.specs.declared.Refusal.{Refusal}
 use Rattle.rules.specs.declared.Refusal.TheVariants.{Geometry, Buffers, LostChip, Records, Spares, Collection, Request, Data, ChipSet, Work, Tickets, FullLog}
-use Rattle.rules.specs.declared.Check.{Check}
-use Rattle.rules.specs.declared.Check.TheVariants.{Passed, Failed}
 use Rattle.rules.specs.Collect.{victim_of}
 use Rattle.rules.specs.Tickets.{ticket_bytes, ticket_of, ticket_sound}
 use Rattle.rules.specs.Log.{contents, log_sound, log_open}
@@ -30,17 +28,21 @@ refusal_number Work = 10
 refusal_number Tickets = 11
 refusal_number FullLog = 12
 
+-- what the checks of a call come to
+abbrev pub Check : Type 0
+Check = Result ⊤ Refusal
+
 -- a row of the table: the test that a call has to pass, and its refusal where it does not
 abbrev pub Row : Type 0
 Row = Bool × Refusal
 
 abbrev pub unless : Bool → Refusal → Check → Check
 unless true r below = below
-unless false r below = Failed r
+unless false r below = Err r
 
 -- what the rows of a call come to: "the first that applies is returned"
 abbrev pub checked : List Row → Check
-checked [] = Passed
+checked [] = Ok tt
 checked ((test, r) ∷ rows) = unless test r (checked rows)
 
 -- row 9: "a chip is lost"

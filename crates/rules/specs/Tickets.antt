@@ -1,10 +1,9 @@
 -- Document 02, 1, "Tickets inside the pages": a ticket and its rules.
-use Rattle.std.specs.Prelude.{ℕ, Bool, not, cond, ◌&&◌, ◌||◌, List, get_or, leb, eqb}
+use Rattle.std.specs.Prelude.{ℕ, Bool, not, cond, ◌&&◌, ◌||◌, List, get_or, leb, eqb, Option, Some, None}
 use Rattle.octets.specs.Number.{number}
 use Rattle.octets.specs.Units.{part}
 use Rattle.rules.specs.declared.Ticket.{Ticket}
-use Rattle.rules.specs.declared.Standing.{Standing}
-use Rattle.rules.specs.declared.Standing.TheVariants.{Weighed, Nothing}
+use Rattle.rules.specs.declared.Weight.{Weight}
 
 -- "A ticket is a record of 16 bytes"
 abbrev pub ticket_bytes : ℕ
@@ -48,5 +47,5 @@ abbrev pub is_for : ℕ → ℕ → Ticket → Bool
 is_for lot bag t = eqb t.lot lot && eqb t.bag bag
 
 -- "the store gives the one standing if it is a weight, else none"
-abbrev pub weight_of : Ticket → Standing
-weight_of t = cond (is_weight t) (Weighed (record { gross = t.gross; tare = t.tare })) Nothing
+abbrev pub weight_of : Ticket → Option Weight
+weight_of t = cond (is_weight t) (Some (record { gross = t.gross; tare = t.tare })) None

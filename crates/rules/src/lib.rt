@@ -45,31 +45,26 @@ pub enum Refusal {
 }
 
 // What the checks of a call come to.
-#[derive(Clone, Copy)]
-pub enum Check {
-    Passed,
-    Failed(Refusal),
-}
+pub type Check = Result<(), Refusal>;
 
-// The answer of a call that stores.
+// The answer of a call that stores and is not refused.
 #[derive(Clone, Copy)]
 pub enum Answer {
     Done(Counts),
     Cut(Counts),
-    Refused(Refusal),
 }
 
-// The answer of a read, which stores nothing and so is never cut.
+// The answer of a read, which stores nothing and so is never cut: its counts, and how its page was got.
 #[derive(Clone, Copy)]
-pub enum Reading {
-    Done(Counts, Origin),
-    Refused(Refusal),
+pub struct Reading {
+    pub counts: Counts,
+    pub origin: Origin,
 }
 
 // A ticket: 16 bytes, as document 02, 1 has them.
 #[derive(Clone, Copy)]
 pub struct Ticket {
-    // 0 empty, 1 weight, 2 withdrawal
+    // 0 empty, 1 weight, 2 withdrawal; no enum, for it may be any byte, which `ticket_sound` judges
     pub kind: u8,
     // a zero byte
     pub blank: u8,
@@ -87,16 +82,10 @@ pub struct Weight {
     pub tare: u32,
 }
 
-// What stands for a lot and bag.
+// The answer of a question for a lot and bag, which stores nothing: the weight that stands, if one does.
 #[derive(Clone, Copy)]
-pub enum Standing {
-    Weighed(Weight),
-    Nothing,
-}
-
-// The answer of a question for a lot and bag, which stores nothing.
-#[derive(Clone, Copy)]
-pub enum Finding {
-    Done(Counts, Standing, Origin),
-    Refused(Refusal),
+pub struct Finding {
+    pub counts: Counts,
+    pub standing: Option<Weight>,
+    pub origin: Origin,
 }

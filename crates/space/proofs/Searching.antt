@@ -6,8 +6,7 @@ use native.Mathlib.Omega.{arith}
 use mathlib.Core.Path.{◌≡◌, refl, sym, ap, ◌∙◌}
 use mathlib.Core.Logic.{◌≢◌}
 use mathlib.Core.Bool.{true, false}
-use Rattle.ranges.specs.declared.Found.{Found}
-use Rattle.ranges.specs.declared.Found.TheVariants.{At, Nothing}
+use Rattle.std.specs.Prelude.{Option, Some, None}
 use Rattle.ranges.specs.Look.{count_below, first_below}
 use Rattle.ranges.proofs.Looks.{both, not_found, first_start, first_keeps, first_here, first_not_here, first_nothing, first_is}
 use Rattle.ranges.proofs.Counts.{count_start, count_le, count_pass, count_fail}
@@ -21,11 +20,11 @@ use Rattle.rules.proofs.Space.Places.{place_begun, place_fresh, place_nowhere}
 
 module _ (l : Layout) (x : ℕ → Page) (b : ℕ) where
   -- its first page is used
-  pub begun_inside : clean (x (b * l.K)) ≡ false → first_below 1 (clean_in l x b) ≡ Nothing
+  pub begun_inside : clean (x (b * l.K)) ≡ false → first_below 1 (clean_in l x b) ≡ None
   begun_inside t = first_not_here 0 (clean_in l x b) (first_start (clean_in l x b)) (rw add-zero t)
 
   -- its last page is clean, so a look at all places finds one
-  pub room_inside {ℓ} : {P : Type ℓ} → 0 < l.K → clean (x (b * l.K + l.K - 1)) ≡ true → (i : ℕ) → first_below i (clean_in l x b) ≡ Nothing → l.K ≤ i → P
+  pub room_inside {ℓ} : {P : Type ℓ} → 0 < l.K → clean (x (b * l.K + l.K - 1)) ≡ true → (i : ℕ) → first_below i (clean_in l x b) ≡ None → l.K ≤ i → P
   room_inside some t i e high =
       let last : b * l.K + l.K - 1 ≡ b * l.K + (l.K - 1) = omega arith in
       both (clean_in l x b (l.K - 1)) (rw last at t) (first_nothing i (clean_in l x b) e (l.K - 1) (omega arith))
@@ -33,16 +32,16 @@ module _ (l : Layout) (x : ℕ → Page) (b : ℕ) where
 -- ---- the blocks of a chip
 
 -- nothing is found yet: of the blocks below b none is begun and has room, so many are clean, and this is the first page of the lowest clean one
-pub record Searched (l : Layout) (x : ℕ → Page) (b : ℕ) (found : Found) (cleans lowest : ℕ) : Type 0 where
-  pub nothing : found ≡ Nothing
-  pub shut : first_below b (open_block l x) ≡ Nothing
+pub record Searched (l : Layout) (x : ℕ → Page) (b : ℕ) (found : Option ℕ) (cleans lowest : ℕ) : Type 0 where
+  pub nothing : found ≡ None
+  pub shut : first_below b (open_block l x) ≡ None
   pub count : cleans ≡ count_below b (clean_block l x)
-  pub none_clean : cleans ≡ 0 → first_below b (clean_block l x) ≡ Nothing
-  pub some_clean : cleans ≢ 0 → (d : ℕ) × (first_below b (clean_block l x) ≡ At d) × (lowest ≡ d * l.K)
+  pub none_clean : cleans ≡ 0 → first_below b (clean_block l x) ≡ None
+  pub some_clean : cleans ≢ 0 → (d : ℕ) × (first_below b (clean_block l x) ≡ Some d) × (lowest ≡ d * l.K)
 
 module _ {l : Layout} {x : ℕ → Page} where
   -- no block before the first
-  pub search_start : Searched l x 0 Nothing 0 0
+  pub search_start : Searched l x 0 None 0 0
   search_start =
       record {
         nothing = refl;
@@ -52,13 +51,13 @@ module _ {l : Layout} {x : ℕ → Page} where
         some_clean = λ d. absurd (d refl);
       }
 
-  module _ {b cleans lowest : ℕ} {found : Found} (h : Searched l x b found cleans lowest) where
+  module _ {b cleans lowest : ℕ} {found : Option ℕ} (h : Searched l x b found cleans lowest) where
     -- no more clean blocks than blocks
     pub search_few : cleans ≤ b
     search_few = rw h.count (count_le b (clean_block l x))
 
     -- a clean block, and the lowest clean one up to it
-    clean_next : clean_block l x b ≡ true → (lowest' : ℕ) → ((d : ℕ) × (first_below (suc b) (clean_block l x) ≡ At d) × (lowest' ≡ d * l.K))
+    clean_next : clean_block l x b ≡ true → (lowest' : ℕ) → ((d : ℕ) × (first_below (suc b) (clean_block l x) ≡ Some d) × (lowest' ≡ d * l.K))
         → Searched l x (b + 1) found (cleans + 1) lowest'
     unfolding open_block
     clean_next t lowest' e = rw add-one (record {
@@ -88,14 +87,14 @@ module _ {l : Layout} {x : ℕ → Page} where
     })
 
 -- the answers after the search: the place that was found, or by the number of clean blocks
-pub record Answered (l : Layout) (x : ℕ → Page) (found : Found) (cleans lowest : ℕ) : Type 0 where
-  pub begun : (p : ℕ) → found ≡ At p → At p ≡ place_of l x
-  pub fresh : found ≡ Nothing → 2 ≤ cleans → At lowest ≡ place_of l x
-  pub nowhere : found ≡ Nothing → cleans < 2 → Nothing ≡ place_of l x
+pub record Answered (l : Layout) (x : ℕ → Page) (found : Option ℕ) (cleans lowest : ℕ) : Type 0 where
+  pub begun : (p : ℕ) → found ≡ Some p → Some p ≡ place_of l x
+  pub fresh : found ≡ None → 2 ≤ cleans → Some lowest ≡ place_of l x
+  pub nowhere : found ≡ None → cleans < 2 → None ≡ place_of l x
 
-module _ {l : Layout} {x : ℕ → Page} {b cleans lowest : ℕ} {found : Found} (h : Searched l x b found cleans lowest) where
+module _ {l : Layout} {x : ℕ → Page} {b cleans lowest : ℕ} {found : Option ℕ} (h : Searched l x b found cleans lowest) where
   -- in block b, which is begun and has room, i is the lowest clean place
-  pub answer_begun : {found' : Found} (i : ℕ) → found' ≡ At (b * l.K + i) → b < l.B → open_block l x b ≡ true → i < l.K → first_below i (clean_in l x b) ≡ Nothing
+  pub answer_begun : {found' : Option ℕ} (i : ℕ) → found' ≡ Some (b * l.K + i) → b < l.B → open_block l x b ≡ true → i < l.K → first_below i (clean_in l x b) ≡ None
       → clean_in l x b i ≡ true → Answered l x found' cleans lowest
   answer_begun i e block s place none t =
       let is = place_begun l x b i
@@ -110,6 +109,6 @@ module _ {l : Layout} {x : ℕ → Page} {b cleans lowest : ℕ} {found : Found}
         begun = λ p q. not_found p (sym h.nothing ∙ q);
         fresh = λ _ few.
             let (d, q, is) = h.some_clean (λ z. omega arith) in
-            ap At (is ∙ sym (add-zero (d * l.K))) ∙ sym (place_fresh l x d (rw e at h.shut) (rw (h.count, e) at few) (rw e at q));
+            ap Some (is ∙ sym (add-zero (d * l.K))) ∙ sym (place_fresh l x d (rw e at h.shut) (rw (h.count, e) at few) (rw e at q));
         nowhere = λ _ few. sym (place_nowhere l x (rw e at h.shut) (rw (h.count, e) at few));
       }

@@ -7,8 +7,7 @@ use mathlib.Core.Bool.{Bool, true, ◌&&◌}
 use mathlib.Core.List.{List}
 use lib.Dec.{ltb}
 use borrow.Author.Tests.{not-true, not-false, lt-ltb, ltb-true}
-use Rattle.ranges.specs.declared.Found.{Found}
-use Rattle.ranges.specs.declared.Found.TheVariants.{At, Nothing}
+use Rattle.std.specs.Prelude.{Option, Some, None}
 use Rattle.ranges.specs.Look.{some_below, better, least_below, when_found, found_in}
 use Rattle.ranges.proofs.Looks.{by_test, some_at, some_none, least_at}
 use Rattle.ranges.proofs.Counts.{count_cong, count_all, count_less}
@@ -33,9 +32,9 @@ use Rattle.ranges.proofs.Leasts.{found_least}
 -- ---- the least of numbers
 
 -- by two measures that agree on the best so far and on n
-better_cong : (m k : ℕ → ℕ) (found : Found) (n : ℕ) → m n ≡ k n → ((i : ℕ) → found ≡ At i → m i ≡ k i) → better m found n ≡ better k found n
-better_cong m k (At i) n e h = rw (e, h i refl)
-better_cong m k Nothing n e h = refl
+better_cong : (m k : ℕ → ℕ) (found : Option ℕ) (n : ℕ) → m n ≡ k n → ((i : ℕ) → found ≡ Some i → m i ≡ k i) → better m found n ≡ better k found n
+better_cong m k (Some i) n e h = rw (e, h i refl)
+better_cong m k None n e h = refl
 
 -- by tests and measures that agree
 least_cong : (n : ℕ) (f g : ℕ → Bool) (m k : ℕ → ℕ) → ((i : ℕ) → i < n → f i ≡ g i) → ((i : ℕ) → i < n → m i ≡ k i) → least_below n f m ≡ least_below n g k
@@ -101,7 +100,7 @@ module _ {g : Geometry} {chips records : List ℕ} {c : ℕ} (h : StampsPass g c
       ∙ (least_cong g.b (loose l r x c) (collectable l c x r) (by_stamp_count l r x c) (named_count l c x r) loose_collectable by_stamp_named)
 
 -- the one that is wanted is the victim, where there is no place
-pub victim_wanted_lem : {g : Geometry} {chips records : List ℕ} {c : ℕ} {v : Found}
+pub victim_wanted_lem : {g : Geometry} {chips records : List ℕ} {c : ℕ} {v : Option ℕ}
     → v ≡ victim_wanted (layout_of g) c (page_at (layout_of g) chips c) (record_at (layout_of g) records) → VictimFor g chips records c v
 unfolding victim_wanted when_found
 victim_wanted_lem e = record { is = λ nowhere. e ∙ rw nowhere }

@@ -15,22 +15,21 @@ ghost use Rattle.space.specs.Victims.{victim_wanted};
 
 use codec::is_clean;
 use layout::Geometry;
-use ranges::{Found, found_in};
+use ranges::found_in;
 use spares::{ChipScan, scan_chip};
 
 // The place on chip c, if there is one. In a block its used pages come first: the block is begun where its first page is used and has
 // room where its last one is clean.
-pub fn place_on(chips: &[u8], g: Geometry, c: usize) -> Found
+pub fn place_on(chips: &[u8], g: Geometry, c: usize) -> Option<usize>
     requires { Ordered g chips.now c }
     ensures { result ≡ place_of (layout_of g) (page_at (layout_of g) chips.now c) }
 {
     let blocks = g.b as usize;
     let k = g.k as usize;
-    let mut found = Found::Nothing;
+    let mut found = None;
     let mut clean: usize = 0;
     let mut lowest: usize = 0;
-    let mut b = 0;
-    'search: while b < blocks {
+    'search: for b in 0..blocks {
         let first = b * k;
         if is_clean(chips, g, c, first) {
             if clean == 0 {
@@ -38,48 +37,37 @@ pub fn place_on(chips: &[u8], g: Geometry, c: usize) -> Found
             }
             clean += 1;
         } else if is_clean(chips, g, c, first + k - 1) {
-            let mut i = 1;
-            while i < k {
+            for i in 1..k {
                 if is_clean(chips, g, c, first + i) {
-                    found = Found::At(first + i);
+                    found = Some(first + i);
                     break 'search;
                 }
-                i += 1;
             }
         }
-        b += 1;
     }
     match found {
-        Found::At(p) => Found::At(p),
-        Found::Nothing => {
-            if 2 <= clean {
-                Found::At(lowest)
-            } else {
-                Found::Nothing
-            }
-        }
+        Some(p) => Some(p),
+        None => { if 2 <= clean { Some(lowest) } else { None } }
     }
 }
 
 // The lowest clean block of chip c.
-pub fn clean_block_on(chips: &[u8], g: Geometry, c: usize) -> Found
+pub fn clean_block_on(chips: &[u8], g: Geometry, c: usize) -> Option<usize>
     requires { Ordered g chips.now c }
     ensures { result ≡ lowest_clean_block (layout_of g) (page_at (layout_of g) chips.now c) }
 {
     let blocks = g.b as usize;
     let k = g.k as usize;
-    let mut b = 0;
-    while b < blocks {
+    for b in 0..blocks {
         if is_clean(chips, g, c, b * k) {
-            return Found::At(b);
+            return Some(b);
         }
-        b += 1;
     }
-    Found::Nothing
+    None
 }
 
 // The victim that the scan of a whole chip has found, if any.
-pub fn victim_in(s: ChipScan) -> Found
+pub fn victim_in(s: ChipScan) -> Option<usize>
     ensures { result ≡ found_in s.victim }
 {
     let least = s.victim;
@@ -88,12 +76,12 @@ pub fn victim_in(s: ChipScan) -> Found
 
 // The full block of chip c with fewest named pages, if one has a page that is not named; none where the chip has a place, for then
 // nobody asks for it.
-pub fn victim_on(chips: &[u8], records: &[u8], g: Geometry, c: usize) -> Found
+pub fn victim_on(chips: &[u8], records: &[u8], g: Geometry, c: usize) -> Option<usize>
     requires { Ordered g chips.now c × StampsPass g chips.now records.now c }
     ensures { result ≡ victim_wanted (layout_of g) c (page_at (layout_of g) chips.now c) (record_at (layout_of g) records.now) }
 {
-    if let Found::At(_) = place_on(chips, g, c) {
-        return Found::Nothing;
+    if let Some(_) = place_on(chips, g, c) {
+        return None;
     }
     victim_in(scan_chip(chips, records, g, c))
 }

@@ -1,5 +1,5 @@
 -- Where the record of a stripe has the number of a page, found from the page's tag; and the test of the page by that number.
-use Prim.Native.Nat.{ℕ, ◌+◌, ◌-◌, ◌≤◌, ◌<◌}
+use Prim.Native.Nat.{ℕ, ◌+◌, ◌-◌, ◌%◌, ◌≤◌, ◌<◌}
 use native.Mathlib.Omega.{arith}
 use mathlib.Core.Path.{◌≡◌, refl}
 use mathlib.Core.Logic.{◌≢◌}
@@ -25,6 +25,11 @@ use Rattle.spares.specs.Scans.{has_number, tag_on, field_on, field_of, FieldFits
 -- ---- the tag and the field of chip c's page of stripe j
 
 module _ (l : Layout) (c j : ℕ) where
+  -- the parity's chip, with the width of a stripe
+  pub parity_is : {width : ℕ} → width ≡ l.N + 1 → width - 1 - j % width ≡ parity_chip l j
+  unfolding parity_chip
+  parity_is e = let is : l.N + 1 - 1 ≡ l.N = omega arith in rw (e, is)
+
   -- on the chip of the parity
   pub parity_field : c ≡ parity_chip l j → (tag_of 80 0 ≡ tag_on l c j) × (12 ≡ field_on l c j)
   unfolding field_on kind_on member_byte

@@ -25,13 +25,12 @@ use Rattle.rules.proofs.Soundness.RecordChecks.{records_sound_lem}
 use Rattle.codec.specs.declared.CollectionRecord.{CollectionRecord}
 use Rattle.codec.specs.Fit.{ChipsFit}
 use Rattle.codec.specs.Views.{CollectionIs}
-use Rattle.names.specs.Stamps.{by_stamp, StampsPass}
+use Rattle.names.specs.Stamps.{by_stamp, StampsPass, names_kept}
 use Rattle.ranges.proofs.Tallies.{same_tests}
 use Rattle.spares.specs.declared.ChipScan.{ChipScan}
 use Rattle.names.specs.Checked.{RecordsPass}
 use Rattle.spares.specs.Scans.{chip_scan}
 use Rattle.spares.specs.Phases.{phase_sound}
-use Rattle.names.specs.Stamps.{names_kept}
 use Rattle.names.proofs.Totals.{found_on, stamped_or_lost, total_stamps}
 
 -- ---- tests

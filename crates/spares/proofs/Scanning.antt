@@ -11,6 +11,7 @@ use lib.ListN.{length, get_or, set, replicate, length-set, get_or-replicate}
 use lib.Seq.{get_or-set_same, get_or-set_other, ext_get_or}
 use lib.Dec.{eqb, ltb}
 use borrow.Author.Tests.{eq-eqb, ne_eqb, lt-ltb, le-ltb}
+use Rattle.std.specs.Prelude.{Option}
 use Rattle.ranges.specs.declared.Least.{Least}
 use Rattle.ranges.specs.Look.{all_below, some_below, count_below, least_so_far}
 use Rattle.ranges.proofs.Counts.{count_start, count_le}
@@ -39,17 +40,14 @@ module _ (b s n k : ℕ) (few : s * k ≤ 128) where
   pub stop_some : 0 < s → s < n - b → (b < b + s) × (b + s ≤ n) × ((b + s - b) * k ≤ 128)
   stop_some some less = let e : b + s - b ≡ s = omega arith in (omega arith, omega arith, rw e few)
 
-  pub stop_all : b < n → n - b ≤ s → (b < n) × (n ≤ n) × ((n - b) * k ≤ 128)
-  stop_all there all = (there, le_refl n, omega (arith, few, mul-le-mul_right k all))
+module _ (k : ℕ) {from : ℕ} where
+  -- those before block b end where it begins
+  pub together_end : (b : ℕ) → from ≤ b → from * k + (b - from) * k ≡ b * k
+  together_end b high = let e : from + (b - from) ≡ b = omega arith in rw (← add-mul, e)
 
-module _ (k : ℕ) {from end : ℕ} (some : from < end) where
-  -- they end where the last one does
-  pub together_end : from * k + (end - from) * k ≡ end * k
-  together_end = let e : from + (end - from) ≡ end = omega arith in rw (← add-mul, e)
-
-  -- block b, whose pages stand from place o on, is within them
-  pub together_in : (b o : ℕ) → from * k + o ≡ b * k → b < end → o + k ≤ (end - from) * k
-  together_in b o here less = omega (arith, here, together_end, suc-mul b k, mul-le-mul_right k less)
+  -- block b, whose pages stand behind theirs, is within those before the end
+  pub together_in : (b end : ℕ) → from ≤ b → b < end → (b - from) * k + k ≤ (end - from) * k
+  together_in b end high less = omega (arith, together_end b high, together_end end (omega arith), suc-mul b k, mul-le-mul_right k less)
 
 -- of fewer pages the same holds
 pub stamps_fewer : {x : ℕ → Page} {first m n : ℕ} {tags stripes : List ℕ} → m ≤ n → StampsOf x first n tags stripes → StampsOf x first m tags stripes
@@ -70,7 +68,7 @@ used_tag tags o i = not (free_tag tags o i)
 
 -- it is used, or the one behind it is clean
 abbrev pub order_tag : List ℕ → ℕ → ℕ → Bool
-order_tag tags o i = used_tag tags o i || free_tag tags o (i + 1)
+order_tag tags o i = used_tag tags o i || clean_tag (get_or tags (o + i + 1) 0)
 
 module _ (l : Layout) {x : ℕ → Page} (b o first : ℕ) {tags stripes : List ℕ} (here : first + o ≡ b * l.K) (h : StampsOf x first (o + l.K) tags stripes) where
   open l use {K}
@@ -85,7 +83,7 @@ module _ (l : Layout) {x : ℕ → Page} (b o first : ℕ) {tags stripes : List 
   -- all tags tell the order of the block
   pub order_tags : all_below (K - 1) (order_tag tags o) ≡ ordered_block l x b
   unfolding ordered_block
-  order_tags = all_cong (K - 1) (order_tag tags o) (in_order l x b) (λ i low. rw (free_is i (omega arith), free_is (i + 1) (omega arith)))
+  order_tags = all_cong (K - 1) (order_tag tags o) (in_order l x b) (λ i low. let next : o + i + 1 ≡ o + (i + 1) = omega arith in rw (next, free_is i (omega arith), free_is (i + 1) (omega arith)))
 
   -- and whether all its pages are clean, and whether none is
   pub fill_tags : record { clean = all_below K (free_tag tags o); full = all_below K (used_tag tags o) } ≡ fill_of l x b
@@ -112,7 +110,7 @@ block_scan_lem l r x c b o e n = rw (o, e, n)
 -- ---- the blocks of chip c below b, with its pages x
 
 -- nothing before the first
-pub scan_start : {v : Least} → ((f : ℕ → Bool) (m : ℕ → ℕ) → v ≡ least_so_far f m 0) → (l : Layout) (r : ℕ → Record) (x : ℕ → Page) (c : ℕ)
+pub scan_start : {v : Option Least} → ((f : ℕ → Bool) (m : ℕ → ℕ) → v ≡ least_so_far f m 0) → (l : Layout) (r : ℕ → Record) (x : ℕ → Page) (c : ℕ)
     → record { ordered = true; clean = false; named = 0; victim = v } ≡ chip_scan l r x c 0
 unfolding chip_scan all_below some_below
 scan_start h l r x c = rw (zero-mul, count_start (by_stamp l r x c), h (loose l r x c) (by_stamp_count l r x c))
@@ -126,7 +124,7 @@ module _ (l : Layout) (r : ℕ → Record) (x : ℕ → Page) (c b : ℕ) {s : C
   unfolding chip_scan block_scan by_stamp_count
   scan_few = rw (h, e, add-one, suc-mul) (omega (arith, count_le (b * K) (by_stamp l r x c), count_le K (by_stamp_in l r x c b)))
 
-  pub scan_more : {v : Least}
+  pub scan_more : {v : Option Least}
       → ((f : ℕ → Bool) (m : ℕ → ℕ) → s.victim ≡ least_so_far f m b → n.full && ltb n.named K ≡ f b → (f b ≡ true → n.named ≡ m b) → v ≡ least_so_far f m (b + 1))
       → record { ordered = s.ordered && n.ordered; clean = s.clean || n.clean; named = s.named + n.named; victim = v } ≡ chip_scan l r x c (b + 1)
   unfolding chip_scan block_scan all_below some_below by_stamp_count loose

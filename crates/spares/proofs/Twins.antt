@@ -10,7 +10,7 @@ use lib.ListN.{get_or, set, replicate, length-set, get_or-replicate}
 use lib.Seq.{get_or-set_same, get_or-set_other}
 use lib.Dec.{eqb, ltb, leb}
 use borrow.Author.Tests.{eq-eqb, eqb-true, le-ltb, ltb-false, leb-true, leb-false}
-use Rattle.ranges.specs.declared.Found.TheVariants.{At, Nothing}
+use Rattle.std.specs.Prelude.{Some, None}
 use Rattle.ranges.proofs.Looks.{by_test, by_same, first_none, first_is, first_at, first_nothing}
 use Rattle.ranges.proofs.Counts.{count_start, count_le, count_pass, count_fail}
 use Rattle.ranges.proofs.Tests.{and_both, neither, or_else}
@@ -59,7 +59,7 @@ module _ (l : Layout) (r : ℕ → Record) (x : ℕ → Page) (c v : ℕ) where
   twin_apart q m i from d = by_test (twin_of l r x c v q i) (λ t. absurd (d (omega (arith, from, twin_from q i t)))) (λ f. f)
 
   -- what the code finds: copied from outside the block, a twin, or none
-  pub twin_outside : (q : ℕ) {u : Spare} → u ≡ spare_of (x q) → ltb u.copied (v * K) || leb (v * K + K) u.copied ≡ true → twin_place l r x c v q ≡ Nothing
+  pub twin_outside : (q : ℕ) {u : Spare} → u ≡ spare_of (x q) → ltb u.copied (v * K) || leb (v * K + K) u.copied ≡ true → twin_place l r x c v q ≡ None
   unfolding twin_place
   twin_outside q {u} e out = first_none K (twin_of l r x c v q) (λ m low. by_test (twin_of l r x c v q m)
       (λ t.
@@ -85,34 +85,46 @@ module _ (l : Layout) (r : ℕ → Record) (x : ℕ → Page) (c v : ℕ) where
     unfolding place
     test = let here : u.copied ≡ page_in l v place = omega (arith, low) in twin_test q place e (rw here at f) named from
 
-    pub twin_found : same_stamp u t n ≡ true → twin_place l r x c v q ≡ At (u.copied - v * K)
+    pub twin_found : same_stamp u t n ≡ true → twin_place l r x c v q ≡ Some (u.copied - v * K)
     unfolding twin_place place
     twin_found s = first_is K (twin_of l r x c v q) place low.0 (sym test ∙ s) (λ i less. twin_apart q place i from (omega arith))
 
-    pub twin_missed : same_stamp u t n ≡ false → twin_place l r x c v q ≡ Nothing
+    pub twin_missed : same_stamp u t n ≡ false → twin_place l r x c v q ≡ None
     unfolding twin_place
     twin_missed s = first_none K (twin_of l r x c v q) (λ m _. by_same m place (λ e. rw e (sym test ∙ s)) (twin_apart q place m from))
 
-  -- what is found is a place
-  pub twin_low : (q m : ℕ) → twin_place l r x c v q ≡ At m → m < K
+  -- what is found is the place of the page that q is copied from
+  pub twin_there : (q m : ℕ) → twin_place l r x c v q ≡ Some m → (m < K) × ((x q).copied ≡ page_in l v m) × (twin_of l r x c v q m ≡ true)
   unfolding twin_place
-  twin_low q m e = (first_at K (twin_of l r x c v q) m e).0
+  twin_there q m e = let h = first_at K (twin_of l r x c v q) m e in (h.0, twin_from q m h.1, h.1)
+
+  -- where none is found, q is no twin of that page
+  pub twin_nowhere : (q : ℕ) → twin_place l r x c v q ≡ None → v * K ≤ (x q).copied → (x q).copied < v * K + K → twin l r x c (x q).copied q ≡ false
+  unfolding twin_place
+  twin_nowhere q e low high =
+      let m = (x q).copied - v * K in
+      let from : (x q).copied ≡ page_in l v m = omega (arith, low) in
+      rw from (first_nothing K (twin_of l r x c v q) e m (omega (arith, high, low)))
 
   -- ---- the table
 
   module _ {d i : ℕ} {counts : List ℕ} (h : Twins l r x c v d i counts) where
     -- no more twins than places looked at
-    pub twins_few : (m : ℕ) → m < K → get_or counts m 0 ≤ i
+    twins_few : (m : ℕ) → m < K → get_or counts m 0 ≤ i
     twins_few m low = rw (h.are m low) (count_le i (twin_in l r x c d (page_in l v m)))
 
-    pub twins_same : twin_place l r x c v (page_in l d i) ≡ Nothing → Twins l r x c v d (i + 1) counts
+    -- a place that is found is one of the counts, which are small
+    pub twin_counted : (q : ℕ) {m : ℕ} → K ≤ 128 → i < K → twin_place l r x c v q ≡ Some m → (m < 128) × (get_or counts m 0 < 128)
+    twin_counted q {m} few less e = let low = (twin_there q m e).0 in (omega arith, omega (arith, twins_few m low))
+
+    pub twins_same : twin_place l r x c v (page_in l d i) ≡ None → Twins l r x c v d (i + 1) counts
     unfolding twin_place
     twins_same e = record {
       long = h.long;
       are = λ m low. rw add-one (h.are m low ∙ sym (count_fail i (twin_in l r x c d (page_in l v m)) (first_nothing K (twin_of l r x c v (page_in l d i)) e m low)));
     }
 
-    pub twins_more : (m : ℕ) → K ≤ 128 → twin_place l r x c v (page_in l d i) ≡ At m → Twins l r x c v d (i + 1) (set counts m (get_or counts m 0 + 1))
+    pub twins_more : (m : ℕ) → K ≤ 128 → twin_place l r x c v (page_in l d i) ≡ Some m → Twins l r x c v d (i + 1) (set counts m (get_or counts m 0 + 1))
     unfolding twin_place
     twins_more m few e =
         let (low, t, _) = first_at K (twin_of l r x c v (page_in l d i)) m e in

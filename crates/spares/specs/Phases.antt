@@ -1,6 +1,5 @@
 -- What a collection under way asks of its chip, with the records r and the chip's pages x.
-use Rattle.std.specs.Prelude.{ℕ, ◌<◌, ◌≡◌, Bool, true, cond, List, length, get_or, eqb}
-use Rattle.ranges.specs.declared.Found.{Found}
+use Rattle.std.specs.Prelude.{ℕ, ◌<◌, ◌≡◌, Bool, true, cond, List, length, get_or, eqb, Option}
 use Rattle.ranges.specs.Look.{first_below, count_below}
 use Rattle.layout.specs.Layout.{Layout, page_in}
 use Rattle.layout.specs.Page.{Page}
@@ -17,7 +16,7 @@ module _ (l : Layout) (r : ℕ → Record) (x : ℕ → Page) where
     twin_of q m = twin l r x c (page_in l v m) q
 
     -- the place whose twin page q is
-    unfoldable pub twin_place : ℕ → Found
+    unfoldable pub twin_place : ℕ → Option ℕ
     twin_place q = first_below K (twin_of q)
 
     -- for each place of the victim, how many of the first n places of the destination d hold its twin

@@ -1,5 +1,5 @@
 -- What one pass over the spare bytes of a chip brings.
-use Rattle.std.specs.Prelude.{ℕ, ◌+◌, ◌*◌, ◌≤◌, ◌<◌, ◌≡◌, Bool, false, not, cond, ◌&&◌, ◌||◌, List, [], ◌∷◌, map, ◌≢◌, get_or, eqb, ltb}
+use Rattle.std.specs.Prelude.{ℕ, ◌+◌, ◌*◌, ◌≤◌, ◌<◌, ◌≡◌, Bool, false, not, cond, ◌&&◌, ◌||◌, None, List, [], ◌∷◌, map, ◌≢◌, get_or, eqb, ltb}
 use Rattle.ranges.specs.Look.{all_below, some_below, count_below, least_so_far}
 use Rattle.layout.specs.Layout.{Layout, page_in}
 use Rattle.layout.specs.Page.{Page}
@@ -24,7 +24,7 @@ has_number r field p =
 
 -- what stands for no chip
 abbrev pub unscanned : ChipScan
-unscanned = record { ordered = false; clean = false; named = 0; victim = record { found = false; at = 0; measure = 0 } }
+unscanned = record { ordered = false; clean = false; named = 0; victim = None }
 
 module _ (l : Layout) where
   open l use {N, K, B, S}

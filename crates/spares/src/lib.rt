@@ -17,9 +17,8 @@ ghost use Rattle.names.specs.Checked.{RecordsPass};
 ghost use Rattle.names.specs.Stamps.{names_kept};
 ghost use Rattle.spares.specs.Scans.{chip_scan, chip_scans, survey};
 
-use block::{fields_of, scan_block};
+use block::Stamps;
 use codec::CollectionRecord;
-use codec::scan::fetch_stamps;
 use layout::Geometry;
 use phase::phase_passes;
 use ranges::{Least, no_least, with_next};
@@ -34,10 +33,10 @@ pub struct ChipScan {
     // pages that the records name, each found by its own stamp
     pub named: usize,
     // of the full blocks with a page that is not named, the one with fewest named pages
-    pub victim: Least,
+    pub victim: Option<Least>,
 }
 
-// What one look at every spare brings.
+// What one look at every spare brings. The chips are told of spares that are not sound too (`scan_spares`).
 #[derive(Clone, Copy)]
 pub struct Survey {
     pub sound: bool,
@@ -75,25 +74,19 @@ fn with_blocks(
     let k = g.k as usize;
     let first = from * k;
     let count = (end - from) * k;
-    let mut tags = [0u16; 128];
-    let mut stripes = [0u16; 128];
-    let mut fields = [0u16; 128];
-    fetch_stamps(chips, g, c, first, count, &mut tags, &mut stripes);
-    fields_of(g, c, count, &tags, &stripes, &mut fields);
+    let mut stamps = Stamps::none();
+    stamps.fetch(chips, g, c, first, count);
     let mut ordered = s.ordered;
     let mut clean = s.clean;
     let mut named = s.named;
     let mut victim = s.victim;
-    let mut b = from;
-    let mut o = 0;
-    while b < end {
-        let scan = scan_block(records, g, first, o, &tags, &stripes, &fields);
+    for b in from..end {
+        let o = (b - from) * k;
+        let scan = stamps.scan_block(records, g, o);
         victim = with_next(victim, b, scan.full & (scan.named < k), scan.named);
         ordered = ordered & scan.ordered;
         clean = clean | scan.clean;
         named += scan.named;
-        b += 1;
-        o += k;
     }
     ChipScan {
         ordered,
@@ -103,7 +96,7 @@ fn with_blocks(
     }
 }
 
-// No block yet.
+// No block yet. No Default, for its contract says what it begins.
 fn no_block() -> ChipScan
     ensures { (l : Layout) (r : ℕ → Record) (x : ℕ → Page) (c : ℕ) → result ≡ chip_scan l r x c 0 }
 {
@@ -124,6 +117,7 @@ pub fn scan_chip(chips: &[u8], records: &[u8], g: Geometry, c: usize) -> ChipSca
     let blocks = g.b as usize;
     let mut scan = no_block();
     let mut b = 0;
+    // no for: the last blocks may be fewer than a step, and step_by would not say where they end
     while b < blocks {
         let end = next_stop(g, b);
         scan = with_blocks(chips, records, g, c, b, end, scan);
@@ -143,15 +137,14 @@ fn scan_all(chips: &[u8], records: &[u8], g: Geometry, lost: usize) -> [ChipScan
     let first = no_block();
     let mut scans = [first; 7];
     let mut b = 0;
+    // no for: the last blocks may be fewer than a step, and step_by would not say where they end
     while b < blocks {
         let end = next_stop(g, b);
-        let mut c = 0;
-        while c <= n {
+        for c in 0..n + 1 {
             if c != lost {
                 let scan = with_blocks(chips, records, g, c, b, end, scans[c]);
                 scans[c] = scan;
             }
-            c += 1;
         }
         b = end;
     }
@@ -177,14 +170,12 @@ fn spares_pass(
     let busy = (co.phase == 1) | (co.phase == 2);
     let mut named: usize = 0;
     let mut shaped = true;
-    let mut c = 0;
-    while c <= n {
+    for c in 0..n + 1 {
         if c != lost {
             let scan = scans[c];
             named += scan.named;
             shaped = shaped & scan.ordered & (scan.clean | (busy & (co.chip == c)));
         }
-        c += 1;
     }
     if (named != names) | !shaped {
         return false;

@@ -14,7 +14,6 @@ ghost use Rattle.spares.specs.Phases.{twin_place, Twins, phase_sound};
 use codec::{CollectionRecord, spare_at};
 use layout::Geometry;
 use names::named_at;
-use ranges::Found;
 
 // Phase 1: no record names a page of the destination d.
 fn phase1_passes(chips: &[u8], records: &[u8], g: Geometry, c: usize, d: usize) -> bool
@@ -24,16 +23,21 @@ fn phase1_passes(chips: &[u8], records: &[u8], g: Geometry, c: usize, d: usize) 
     let k = g.k as usize;
     let first = d * k;
     let mut free = true;
-    let mut i = 0;
-    while i < k {
+    for i in 0..k {
         free = free & !named_at(chips, records, g, c, first + i);
-        i += 1;
     }
     free
 }
 
 // The place of the victim v whose unnamed twin page q is, if any.
-fn twin_place(chips: &[u8], records: &[u8], g: Geometry, c: usize, v: usize, q: usize) -> Found
+pub fn twin_place(
+    chips: &[u8],
+    records: &[u8],
+    g: Geometry,
+    c: usize,
+    v: usize,
+    q: usize,
+) -> Option<usize>
     requires { StampsPass g chips.now records.now c × (v < g.b) × (q < pages (layout_of g)) }
     ensures { result ≡ twin_place (layout_of g) (record_at (layout_of g) records.now) (page_at (layout_of g) chips.now c) c v q }
 {
@@ -42,18 +46,14 @@ fn twin_place(chips: &[u8], records: &[u8], g: Geometry, c: usize, v: usize, q: 
     let u = spare_at(chips, g, c, q);
     let p = u.copied;
     if (p < first) | (first + k <= p) {
-        return Found::Nothing;
+        return None;
     }
     let t = spare_at(chips, g, c, p);
     let same = (u.kind == t.kind)
         & (u.member == t.member)
         & (u.stripe == t.stripe)
         & !named_at(chips, records, g, c, q);
-    if same {
-        Found::At(p - first)
-    } else {
-        Found::Nothing
-    }
+    if same { Some(p - first) } else { None }
 }
 
 // For each place of the victim v, how many pages of the destination d are its unnamed twin. A page is the twin of one place at most,
@@ -65,13 +65,11 @@ fn count_twins(chips: &[u8], records: &[u8], g: Geometry, c: usize, v: usize, d:
     let k = g.k as usize;
     let first = d * k;
     let mut counts = [0u8; 128];
-    let mut i = 0;
-    while i < k {
+    for i in 0..k {
         let found = twin_place(chips, records, g, c, v, first + i);
-        if let Found::At(m) = found {
+        if let Some(m) = found {
             counts[m] += 1;
         }
-        i += 1;
     }
     counts
 }
@@ -85,10 +83,8 @@ fn phase2_passes(chips: &[u8], records: &[u8], g: Geometry, c: usize, v: usize, 
     let first = v * k;
     let counts = count_twins(chips, records, g, c, v, d);
     let mut copied = true;
-    let mut i = 0;
-    while i < k {
+    for i in 0..k {
         copied = copied & (!named_at(chips, records, g, c, first + i) | (counts[i] == 1));
-        i += 1;
     }
     copied
 }

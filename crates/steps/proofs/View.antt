@@ -11,8 +11,7 @@ use lib.Arith.{digits_lt}
 use borrow.Author.Tests.{lt-ltb, le-ltb, le-leb, lt-leb}
 use Rattle.octets.specs.Units.{unit, unit_put}
 use Rattle.ranges.specs.Update.{at}
-use Rattle.octets.proofs.Units.{unit_unit, unit_unit_outside, apart, unit_same, unit_other, length_unit_put, length_put_units, unit_fill_in, unit_fill_before}
-use Rattle.octets.proofs.Units.{unit_fill_after, same_index}
+use Rattle.octets.proofs.Units.{unit_unit, unit_unit_outside, apart, unit_same, unit_other, length_unit_put, length_put_units, unit_fill_in, unit_fill_before, unit_fill_after, same_index}
 use Rattle.ranges.proofs.Updates.{at_unique}
 use Rattle.layout.specs.Layout.{Layout, pages, in_block, page_bytes, record_bytes}
 use Rattle.layout.specs.Page.{Page, page_of, bytes_of_page, page_at, clean}

@@ -10,8 +10,8 @@ use mathlib.Core.List.{List}
 use lib.ListN.{length, get_or}
 use lib.Dec.{eqb}
 use borrow.Author.Tests.{eqb-true, eq-eqb, ne_eqb, leb-true, le-leb, not-true}
-use Rattle.ranges.specs.declared.Found.{Found}
-use Rattle.ranges.specs.declared.Found.TheVariants.{At, Nothing}
+use Rattle.std.specs.Bool.{then_some}
+use Rattle.std.specs.Prelude.{Option, Some, None}
 use Rattle.ranges.specs.Look.{all_below, last_below, when_found}
 use Rattle.ranges.proofs.Looks.{by_test, by_order, by_same, both, all_true, all_at, last_at}
 use Rattle.ranges.proofs.Tests.{and_both, and_left, unless_equal, under}
@@ -49,23 +49,23 @@ ticket_is page i =
     )
 
 -- a number more, which is the highest that passes if it does
-last_by : (found fits : Bool) (n latest : ℕ) {r : Found} → cond found (At latest) Nothing ≡ r
-    → cond (found || fits) (At (cond fits n latest)) Nothing ≡ cond fits (At n) r
+last_by : (found fits : Bool) (n latest : ℕ) {r : Option ℕ} → then_some found latest ≡ r
+    → then_some (found || fits) (cond fits n latest) ≡ cond fits (Some n) r
 last_by true true n latest e = refl
 last_by true false n latest e = e
 last_by false true n latest e = refl
 last_by false false n latest e = e
 
 module _ (x : ℕ → Ticket) (lot bag : ℕ) where
-  pub seen_none : Seen x lot bag 0 false 0
+  pub seen_none : Seen x lot bag 0 None
   unfolding all_below last_below
   seen_none = record { sound = refl; told = refl }
 
   -- one ticket more
-  pub seen_more : {n latest : ℕ} {found : Bool} → Seen x lot bag n found latest → ticket_sound (x n) ≡ true
-      → Seen x lot bag (n + 1) (found || is_for lot bag (x n)) (cond (is_for lot bag (x n)) n latest)
+  pub seen_more : {n : ℕ} (latest : ℕ) (found : Bool) → Seen x lot bag n (then_some found latest) → ticket_sound (x n) ≡ true
+      → Seen x lot bag (n + 1) (then_some (found || is_for lot bag (x n)) (cond (is_for lot bag (x n)) n latest))
   unfolding all_below last_below
-  seen_more {n} {latest} {found} s h =
+  seen_more {n} latest found s h =
       rw add-one (record { sound = rw (s.sound, h); told = last_by found (is_for lot bag (x n)) n latest s.told })
 
   -- what stands after n tickets, where `first` stood and v t is what ticket t lets stand
@@ -78,9 +78,8 @@ module _ (x : ℕ → Ticket) (lot bag : ℕ) where
     stood_more first n = by_test (is_for lot bag (x n)) (λ e. rw e) (λ e. rw e)
 
     -- as the code tells it
-    pub stood_is : {n latest : ℕ} {found : Bool} (first : A) → Seen x lot bag n found latest → cond found (v latest) first ≡ stood first n
-    unfolding when_found
-    stood_is {found = found} first s = by_test found (λ e. rw (e, sym (rw e at s.told))) (λ e. rw (e, sym (rw e at s.told)))
+    pub stood_is : {n : ℕ} {latest : Option ℕ} (first : A) → Seen x lot bag n latest → when_found latest v first ≡ stood first n
+    stood_is first s = ap (λ (r : Option ℕ). when_found r v first) s.told
 
 module _ (lot bag : ℕ) {A : Type 0} where
   stood_cong : (x y : ℕ → Ticket) (v w : ℕ → A) (first : A) (n : ℕ) → ((k : ℕ) → k < n → (x k ≡ y k) × (v k ≡ w k))
@@ -112,8 +111,8 @@ module _ (lot bag : ℕ) {A : Type 0} where
   stands_none x v first = record { sound = refl; stands = refl }
 
   -- the tickets y of a page behind a others
-  pub seen_page : {x y : ℕ → Ticket} {v w : ℕ → A} {first mid last : A} {a n latest : ℕ} {found : Bool} → ((k : ℕ) → k < n → (x (a + k) ≡ y k) × (v (a + k) ≡ w k))
-      → StandsTo x v first a mid → Seen y lot bag n found latest → last ≡ stood y lot bag w mid n → StandsTo x v first (a + n) last
+  pub seen_page : {x y : ℕ → Ticket} {v w : ℕ → A} {first mid last : A} {a n : ℕ} {latest : Option ℕ} → ((k : ℕ) → k < n → (x (a + k) ≡ y k) × (v (a + k) ≡ w k))
+      → StandsTo x v first a mid → Seen y lot bag n latest → last ≡ stood y lot bag w mid n → StandsTo x v first (a + n) last
   seen_page {x} {y} {v} {w} {first} {mid} {last} {a} {n} h s t e = record {
     sound = all_true (a + n) (λ k. ticket_sound (x k)) (λ k b.
         by_order k a
@@ -129,10 +128,9 @@ module _ (lot bag : ℕ) {A : Type 0} where
   }
 
 -- the latest ticket is one of the page's
-pub latest_fits : {page : List ℕ} {lot bag : ℕ} {r : Shown} → PageShows page lot bag r → r.found ≡ true → r.latest * ticket_bytes + ticket_bytes ≤ length page
-latest_fits {page} {lot} {bag} {r} p e =
-    let last : last_below r.kept (λ t. is_for lot bag (tickets_in page t)) ≡ At r.latest = sym (rw e at p.seen.told) in
-    omega (arith, last_at r.kept (λ t. is_for lot bag (tickets_in page t)) r.latest last, p.few)
+pub latest_fits : {page : List ℕ} {lot bag : ℕ} {r : Shown} → PageShows page lot bag r → (i : ℕ) → r.latest ≡ Some i → i * ticket_bytes + ticket_bytes ≤ length page
+latest_fits {page} {lot} {bag} {r} p i e =
+    omega (arith, last_at r.kept (λ t. is_for lot bag (tickets_in page t)) i (sym p.seen.told ∙ e), p.few)
 
 -- kind and the zero byte behind it in the lower half of the word, the bag in the upper
 module _ (page : List ℕ) (a : ℕ) (fits : a + 4 ≤ length page) (low : get_or page a 0 < 256) (high : get_or page (a + 1) 0 < 256) where
@@ -230,7 +228,7 @@ unfolding all_below
 plain_more page lot bag i e f = rw (add-one, e, f)
 
 -- plain tickets, of which none is for the lot and bag
-pub seen_plain : (page : List ℕ) (lot bag n : ℕ) → ((t : ℕ) → t < n → is_plain page lot bag t ≡ true) → Seen (tickets_in page) lot bag n false 0
+pub seen_plain : (page : List ℕ) (lot bag n : ℕ) → ((t : ℕ) → t < n → is_plain page lot bag t ≡ true) → Seen (tickets_in page) lot bag n None
 unfolding all_below last_below is_plain
 seen_plain page lot bag zero h = seen_none (tickets_in page) lot bag
 seen_plain page lot bag (suc n) h =

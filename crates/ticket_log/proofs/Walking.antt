@@ -4,14 +4,13 @@ use native.Mathlib.Nat.{zero-mul, suc-mul, mul-le-mul, mod-lt, div-add-mod', div
 use native.Mathlib.Numerals.{add-one}
 use native.Mathlib.Omega.{arith}
 use mathlib.Core.Path.{◌≡◌, refl, sym, ap, ◌∙◌}
-use mathlib.Core.Bool.{true, false, cond, ◌||◌}
+use mathlib.Core.Bool.{Bool, true, false, cond, ◌||◌}
 use mathlib.Core.List.{List}
 use lib.Arith.{digits_lt, digits_div, digits_mod}
 use lib.Dec.{eqb}
 use lib.ListN.{length}
 use borrow.Author.Tests.{eqb-true}
-use Rattle.ranges.specs.declared.Found.{Found}
-use Rattle.ranges.specs.declared.Found.TheVariants.{At, Nothing}
+use Rattle.std.specs.Prelude.{Option, Some, None}
 use Rattle.ranges.specs.Look.{first_below, last_below, sum_below, when_found}
 use Rattle.ranges.proofs.Looks.{by_test, by_order, by_found, at_last, both, all_at, first_at, first_is, first_none}
 use Rattle.ranges.proofs.Sums.{sum_more}
@@ -24,7 +23,6 @@ use Rattle.layout.proofs.Rotations.{stripe_fits, member_fits}
 use Rattle.rules.specs.declared.Origin.{Origin}
 use Rattle.rules.specs.declared.Origin.TheVariants.{Unwritten}
 use Rattle.rules.specs.declared.Ticket.{Ticket}
-use Rattle.rules.specs.declared.Standing.TheVariants.{Nothing as NoWeight}
 use Rattle.rules.specs.Read.{fetch, fetch_member}
 use Rattle.rules.specs.Origins.{greater, greatest_origin}
 use Rattle.rules.specs.Tickets.{ticket_bytes, is_empty, ticket_sound, is_for, weight_of}
@@ -34,12 +32,19 @@ use Rattle.ticket_log.specs.declared.Latest.{Latest}
 use Rattle.ticket_log.specs.declared.Position.{Position}
 use Rattle.ticket_log.specs.declared.Looked.{Looked}
 use Rattle.ticket_log.specs.declared.Walk.{Walk}
-use Rattle.ticket_log.specs.Walks.{tickets_in, Held, held_by, held_from, nothing_held, position_of, PageShows, PageLooked, Walked, broken, whole, walk_of}
+use Rattle.ticket_log.specs.Walks.{tickets_in, Held, held_by, held_from, nothing_held, position_of, PageShows, PageLooked, Walked, whole, walk_of}
 use Rattle.ticket_log.proofs.Seeing.{StandsTo, stands_none, seen_page, stood_is}
 
 -- a store has few pages
 pub pages_few : (l : Layout) → Within l → l.N * l.S ≤ 393210
 pages_few l w = mul-le-mul w.members_high w.stripes_high
+
+-- and few places
+pub places_few : (l : Layout) → Within l → {i n : ℕ} → i < l.N * l.S → n ≡ l.W → i * (n / ticket_bytes) ≤ 100661760
+places_few l w {i} {n} h e =
+    let low : i ≤ 393210 = omega (arith, h, pages_few l w) in
+    let per : n / ticket_bytes ≤ 256 = rw e (omega (arith, w.bytes_high)) in
+    mul-le-mul low per
 
 -- a sound ticket is not empty
 kind_some : (k : ℕ) → eqb k 1 || eqb k 2 ≡ true → eqb k 0 ≡ false
@@ -71,32 +76,32 @@ module _ (l : Layout) (f : ℕ → List ℕ) where
     held_in i k h = (in_page i k h, rw (in_page i k h, digits_div i h))
 
     pub seen_to : {i : ℕ} {mid last : Held} {r : Shown} → length (f i) ≡ l.W → SeenTo (i * per_page l) mid → PageShows (f i) lot bag r
-        → last ≡ cond r.found (held_by (tickets_in (f i) r.latest) (o i)) mid → SeenTo (i * per_page l + r.kept) last
+        → last ≡ when_found r.latest (λ k. held_by (tickets_in (f i) k) (o i)) mid → SeenTo (i * per_page l + r.kept) last
     seen_to {i} {mid} {last} {r} long s p after =
         let few : r.kept ≤ per_page l = rw long at p.few in
         seen_page lot bag (λ k h. held_in i k (omega arith)) s p.seen (after ∙ stood_is (tickets_in (f i)) lot bag (λ k. held_by (tickets_in (f i) k) (o i)) mid p.seen)
 
     -- what stands of the log, and how it was got
-    abbrev Told : Found → ℕ → Held → Type 0
+    abbrev Told : Option ℕ → ℕ → Held → Type 0
     Told end pages last =
         (log_end l f ≡ end) × (log_sound l f ≡ true) × (standing l f lot bag ≡ last.standing)
         × (log_origin l f o lot bag ≡ carried last.standing last.origin (greatest_origin pages o))
 
-    stands_held : (r : Found) → when_found r (λ t. weight_of (ticket_at l f t)) NoWeight ≡ (when_found r held_at nothing_held).standing
+    stands_held : (r : Option ℕ) → when_found r (λ t. weight_of (ticket_at l f t)) None ≡ (when_found r held_at nothing_held).standing
     unfolding when_found
-    stands_held (At t) = refl
-    stands_held Nothing = refl
+    stands_held (Some t) = refl
+    stands_held None = refl
 
-    origin_held : (r : Found) → when_found r (λ t. o (falls_in l t)) Unwritten ≡ (when_found r held_at nothing_held).origin
+    origin_held : (r : Option ℕ) → when_found r (λ t. o (falls_in l t)) Unwritten ≡ (when_found r held_at nothing_held).origin
     unfolding when_found
-    origin_held (At t) = refl
-    origin_held Nothing = refl
+    origin_held (Some t) = refl
+    origin_held None = refl
 
     none_empty : {n : ℕ} {last : Held} → SeenTo n last → (k : ℕ) → k < n → is_empty (ticket_at l f k) ≡ false
     none_empty {n} s k h = not_empty (ticket_at l f k) (all_at n (λ t. ticket_sound (ticket_at l f t)) s.sound k h)
 
     -- the log ends here
-    told : (end : Found) {last : Held} → SeenTo (when_found end (λ t. t) (places l)) last → first_below (places l) (λ t. is_empty (ticket_at l f t)) ≡ end
+    told : (end : Option ℕ) {last : Held} → SeenTo (when_found end (λ t. t) (places l)) last → first_below (places l) (λ t. is_empty (ticket_at l f t)) ≡ end
         → Told end (when_found end (λ t. falls_in l t + 1) (l.N * l.S)) last
     unfolding log_end log_length log_sound latest standing log_pages log_origin
     told end {last} s e =
@@ -109,14 +114,14 @@ module _ (l : Layout) (f : ℕ → List ℕ) where
         )
 
     -- the ticket at place n ends the log
-    pub ended : {n : ℕ} {last : Held} → SeenTo n last → n < places l → is_empty (ticket_at l f n) ≡ true → Told (At n) (falls_in l n + 1) last
+    pub ended : {n : ℕ} {last : Held} → SeenTo n last → n < places l → is_empty (ticket_at l f n) ≡ true → Told (Some n) (falls_in l n + 1) last
     unfolding when_found
-    ended {n} {last} s h e = told (At n) s (first_is (places l) (λ t. is_empty (ticket_at l f t)) n h e (none_empty s))
+    ended {n} {last} s h e = told (Some n) s (first_is (places l) (λ t. is_empty (ticket_at l f t)) n h e (none_empty s))
 
     -- no ticket ends it
-    pub full : {last : Held} → SeenTo (places l) last → Told Nothing (l.N * l.S) last
+    pub full : {last : Held} → SeenTo (places l) last → Told None (l.N * l.S) last
     unfolding when_found
-    full {last} s = told Nothing s (first_none (places l) (λ t. is_empty (ticket_at l f t)) (none_empty s))
+    full {last} s = told None s (first_none (places l) (λ t. is_empty (ticket_at l f t)) (none_empty s))
 
     -- the log goes beyond place n
     beyond : (n : ℕ) → n < places l → ((k : ℕ) → k ≤ n → is_empty (ticket_at l f k) ≡ false) → n < log_length l f
@@ -135,6 +140,19 @@ module _ (l : Layout) (f : ℕ → List ℕ) where
         (λ e. e)
 
 -- ---- the walk of a store's log
+
+-- whether a walk tells something, and what
+abbrev is_walk : Option Walk → Bool
+is_walk (Some x) = true
+is_walk None = false
+
+abbrev walk_in : Walk → Option Walk → Walk
+walk_in other (Some x) = x
+walk_in other None = other
+
+abbrev reads_in : ℕ → Option Walk → ℕ
+reads_in other (Some x) = x.reads
+reads_in other None = other
 
 module _ (l : Layout) (s : Images) (lost lot bag : ℕ) where
   open l use {N, W, S}
@@ -200,8 +218,8 @@ module _ (l : Layout) (s : Images) (lost lot bag : ℕ) where
 
   module _ (w : Within l) where
     module _ {greatest : Origin} {reads i : ℕ} {r : Looked} (x : Next greatest reads i r) where
-      pub walk_ended : {o : Walk} → o ≡ whole (At (i * per_page l + r.shown.kept)) (reads + r.reads) r.latest (greater greatest r.origin) → r.shown.ended ≡ true
-          → r.shown.kept < per_page l → Walked l s lost lot bag o
+      pub walk_ended : {o : Walk} → o ≡ whole (Some (i * per_page l + r.shown.kept)) (reads + r.reads) r.latest (greater greatest r.origin) → r.shown.ended ≡ true
+          → r.shown.kept < per_page l → Walked l s lost lot bag (Some o)
       unfolding log_reads log_pages when_found
       walk_ended is ends h =
           let inside : r.shown.kept < length (contents l s lost i) / ticket_bytes = rw x.long h in
@@ -210,11 +228,11 @@ module _ (l : Layout) (s : Images) (lost lot bag : ℕ) where
           rw is
           (record {
             tells = rw (t.0, t.1, t.2, t.3, x.told, digits_div i h, x.counted);
-            few = omega (arith, x.few, x.inside, pages_few l w);
+            few = λ o e. rw (ap (reads_in 0) (sym e)) (omega (arith, x.few, x.inside, pages_few l w));
           })
 
-      pub walk_broken : {o : Walk} → o ≡ broken → r.shown.ended ≡ false → Walked l s lost lot bag o
-      walk_broken e ends =
+      pub walk_broken : r.shown.ended ≡ false → Walked l s lost lot bag None
+      walk_broken ends =
           let few : r.shown.kept ≤ per_page l = rw x.long at x.shows.few in
           by_order r.shown.kept (per_page l)
           (λ h.
@@ -223,11 +241,11 @@ module _ (l : Layout) (s : Images) (lost lot bag : ℕ) where
           let wrong =
           breaks l (contents l s lost) (origins l s lost) lot bag x.seen (digits_lt x.inside h)
           (ap (λ (t : Ticket). is_empty t) is ∙ sym (x.shows.ends inside) ∙ ends) (ap ticket_sound is ∙ x.shows.next inside) in
-          rw e (record { tells = rw wrong; few = omega arith }))
+          record { tells = rw wrong; few = λ o e. both _ (ap is_walk e) refl })
           (λ h. let all : r.shown.kept ≡ length (contents l s lost i) / ticket_bytes = rw x.long (omega arith) in both _ (x.shows.over all) ends)
 
-    pub walk_full : {latest : Latest} {greatest : Origin} {reads i : ℕ} {o : Walk} → o ≡ whole Nothing reads latest greatest → Going latest greatest reads i → N * S ≤ i
-        → Walked l s lost lot bag o
+    pub walk_full : {latest : Latest} {greatest : Origin} {reads i : ℕ} {o : Walk} → o ≡ whole None reads latest greatest → Going latest greatest reads i → N * S ≤ i
+        → Walked l s lost lot bag (Some o)
     unfolding log_reads log_pages when_found
     walk_full {i = i} is g h =
         let all : i ≡ N * S = omega (arith, g.below) in
@@ -235,27 +253,26 @@ module _ (l : Layout) (s : Images) (lost lot bag : ℕ) where
         rw is
         (record {
           tells = rw (t.0, t.1, t.2, t.3, g.told, g.counted, all);
-          few = omega (arith, g.few, g.below, pages_few l w);
+          few = λ o e. rw (ap (reads_in 0) (sym e)) (omega (arith, g.few, g.below, pages_few l w));
         })
 
   -- what the walk tells of the log
-  pub told_sound : {r : Walk} → r ≡ walk_of l s lost lot bag → log_sound l (contents l s lost) ≡ r.sound
-  told_sound e = by_test (log_sound l (contents l s lost))
-      (λ h. h ∙ sym (ap (λ (x : Walk). x.sound) (rw h at e)))
-      (λ h. h ∙ sym (ap (λ (x : Walk). x.sound) (rw h at e)))
+  pub told_broken : {r : Option Walk} → r ≡ walk_of l s lost lot bag → r ≡ None → log_sound l (contents l s lost) ≡ false
+  told_broken e none = by_test (log_sound l (contents l s lost)) (λ h. both _ refl (ap is_walk (sym (rw h at e) ∙ none))) (λ h. h)
 
-  pub told_whole : {r : Walk} → r ≡ walk_of l s lost lot bag → r.sound ≡ true
-      → (log_sound l (contents l s lost) ≡ true) × (log_end l (contents l s lost) ≡ r.end) × (log_reads l s lost ≡ r.reads) × (standing l (contents l s lost) lot bag ≡ r.standing)
-      × (log_origin l (contents l s lost) (origins l s lost) lot bag ≡ r.origin)
-  told_whole e h =
-      let sound = told_sound e ∙ h in
-      let is = rw sound at e in (
+  pub told_whole : {r : Option Walk} {x : Walk} → r ≡ walk_of l s lost lot bag → r ≡ Some x
+      → (log_sound l (contents l s lost) ≡ true) × (log_end l (contents l s lost) ≡ x.end) × (log_reads l s lost ≡ x.reads) × (standing l (contents l s lost) lot bag ≡ x.standing)
+      × (log_origin l (contents l s lost) (origins l s lost) lot bag ≡ x.origin)
+  told_whole {r} {x} e some = by_test (log_sound l (contents l s lost))
+      (λ sound.
+      let is = ap (walk_in x) (sym (rw sound at e) ∙ some) in (
         sound,
-        sym (ap (λ (x : Walk). x.end) is),
-        sym (ap (λ (x : Walk). x.reads) is),
-        sym (ap (λ (x : Walk). x.standing) is),
-        sym (ap (λ (x : Walk). x.origin) is),
-      )
+        ap (λ (o : Walk). o.end) is,
+        ap (λ (o : Walk). o.reads) is,
+        ap (λ (o : Walk). o.standing) is,
+        ap (λ (o : Walk). o.origin) is,
+      ))
+      (λ h. both _ refl (ap is_walk (sym some ∙ rw h at e)))
 
 -- ---- positions
 

@@ -2,11 +2,10 @@
 
 #![tactic(auto)]
 
-ghost use Rattle.std.specs.Prelude.{◌≡◌, true, false, cond, ℕ, ◌+◌, ◌*◌, ◌/◌, ◌≤◌, ◌<◌, length};
+ghost use Rattle.std.specs.Prelude.{◌≡◌, true, false, cond, ℕ, ◌+◌, ◌*◌, ◌/◌, ◌≤◌, ◌<◌, length, Some};
 ghost use Rattle.octets.specs.Number.{number};
 ghost use Rattle.octets.specs.Units.{part, unit, unit_put};
-ghost use Rattle.ranges.specs.declared.Found.TheVariants.{At};
-ghost use Rattle.ranges.specs.Look.{all_below};
+ghost use Rattle.ranges.specs.Look.{all_below, when_found};
 ghost use Rattle.layout.specs.Layout.{layout_of, limits};
 ghost use Rattle.layout.specs.Record.{record_at};
 ghost use Rattle.steps.specs.Allowance.{images};
@@ -16,16 +15,14 @@ ghost use Rattle.rules.specs.Log.{carried, contents};
 ghost use Rattle.rules.specs.Origins.{origin_numbered, greater as greater_of};
 ghost use Rattle.fetch.specs.Into.{is_direct};
 ghost use Rattle.rules.specs.Tickets.{ticket_bytes, ticket_of, ticket_sound, is_for};
-ghost use Rattle.codec.specs.Fit.{ChipsFit, RecordsFit, SlotsFit};
-ghost use Rattle.ticket_log.specs.Walks.{broken as brokenWalk, whole as wholeWalk, tickets_in, held_from, held_by, position_of, is_plain, PageShows, PageLooked, Walked};
+ghost use Rattle.ticket_log.specs.Walks.{whole as wholeWalk, tickets_in, held_from, held_by, position_of, is_plain, PageShows, PageLooked, Walked};
 
 use answers::origin_number;
 use codec::parity_chip;
-use fetch::{Got, fetch_member, is_direct, lent};
+use fetch::{Got, View, is_direct, lent};
 use layout::Geometry;
 use octets::{copy, number_at, number_of_four};
-use ranges::Found;
-use rules::{Origin, Standing, Ticket, Weight};
+use rules::{Origin, Ticket, Weight};
 
 // The bytes of a ticket.
 pub const TICKET: usize = 16;
@@ -95,9 +92,8 @@ struct Shown {
     kept: usize,
     // the next one, if there is one, ends the log, or else breaks the rules
     ended: bool,
-    // some of them are for the lot and bag, and this one is the latest
-    found: bool,
-    latest: usize,
+    // the latest of those that are for the lot and bag
+    latest: Option<usize>,
 }
 
 // Whether ticket i of a page is sound and not for the lot and bag. It is looked at in words, without a branch, so that many are looked at in one go.
@@ -140,38 +136,34 @@ fn look_at(page: &[u8], lot: u32, bag: u16) -> Shown
         return Shown {
             kept: per_page,
             ended: true,
-            found: false,
-            latest: 0,
+            latest: None,
         };
     }
     let mut found = false;
     let mut latest = 0;
-    let mut i = 0;
-    while i < per_page {
+    for i in 0..per_page {
         let t = ticket_in(page, i);
         if !is_sound(t) {
             return Shown {
                 kept: i,
                 ended: t.kind == 0,
-                found,
-                latest,
+                latest: found.then_some(latest),
             };
         }
         let fits = is_for(t, lot, bag);
         let later = pick(fits, i, latest);
         found = found | fits;
         latest = later;
-        i += 1;
     }
     Shown {
-        kept: i,
+        kept: per_page,
         ended: true,
-        found,
-        latest,
+        latest: found.then_some(latest),
     }
 }
 
-// The latest ticket so far for the lot and bag, told by numbers of one width alone: between others the compiler moves the empty bytes too.
+// The latest ticket so far for the lot and bag. No Option, and no enum for the origin, but numbers of one width alone: with an enum the
+// compiler moved its empty bytes for every ticket, four fifths of the walk.
 #[derive(Clone, Copy)]
 struct Latest {
     // 0 where there is none
@@ -184,24 +176,27 @@ struct Latest {
 
 // What stands after the tickets of a page that was got so.
 fn latest_of(page: &[u8], shown: Shown, origin: Origin, before: Latest) -> Latest
-    requires { shown.found ≡ true → shown.latest * ticket_bytes + ticket_bytes ≤ length page.now }
-    ensures { held_from result ≡ cond shown.found (held_by (tickets_in page.now shown.latest) origin) (held_from before) }
+    requires { (i : ℕ) → shown.latest ≡ Some i → i * ticket_bytes + ticket_bytes ≤ length page.now }
+    ensures { held_from result ≡ when_found shown.latest (λ i. held_by (tickets_in page.now i) origin) (held_from before) }
 {
-    if shown.found {
-        let t = ticket_in(page, shown.latest);
-        let kind = t.kind as u32;
-        let number = origin_number(origin) as u32;
-        return Latest {
-            kind,
-            gross: t.gross,
-            tare: t.tare,
-            origin: number,
-        };
+    let latest = shown.latest;
+    match latest {
+        Some(i) => {
+            let t = ticket_in(page, i);
+            let kind = t.kind as u32;
+            let number = origin_number(origin) as u32;
+            Latest {
+                kind,
+                gross: t.gross,
+                tare: t.tare,
+                origin: number,
+            }
+        }
+        None => before,
     }
-    before
 }
 
-// Of two origins the one of the greater number.
+// Of two origins the one of the greater number. No derived order: the numbers are the paper's, and not those of the enum's lines.
 fn greater(a: Origin, b: Origin) -> Origin
     ensures { result ≡ greater_of a b }
 {
@@ -212,19 +207,19 @@ fn greater(a: Origin, b: Origin) -> Origin
 }
 
 // What it lets stand.
-fn standing_of(x: Latest) -> Standing
+fn standing_of(x: Latest) -> Option<Weight>
     ensures { result ≡ (held_from x).standing }
 {
     if x.kind == 1 {
-        return Standing::Weighed(Weight {
+        return Some(Weight {
             gross: x.gross,
             tare: x.tare,
         });
     }
-    Standing::Nothing
+    None
 }
 
-// The origin of a number.
+// The origin of a number. No From: only `Latest` holds an origin so.
 fn origin_numbered(n: u32) -> Origin
     ensures { result ≡ origin_numbered n }
 {
@@ -296,34 +291,6 @@ fn next_page(g: Geometry, at: Position) -> Position
     }
 }
 
-// A page that cannot be read off its chip is fetched to the work page.
-fn fetch_apart(
-    work: &mut [u8],
-    chips: &[u8],
-    records: &[u8],
-    slots: &[u8],
-    g: Geometry,
-    lost: usize,
-    at: Position,
-    direct: bool,
-) -> Got
-    requires { ChipsFit g chips.now × RecordsFit g records.now × SlotsFit g slots.now × (length work.old ≡ g.w)
-        × ((j : ℕ) → j < g.s → record_sound (layout_of g) (record_at (layout_of g) records.now j) ≡ true)
-        × (at ≡ position_of (layout_of g) at.page) × (at.page < g.n * g.s)
-        × (direct ≡ is_direct (layout_of g) (record_at (layout_of g) records.now at.stripe) lost at.stripe at.member) }
-    ensures { (result.reads ≡ (fetch (layout_of g) (images chips.now records.now slots.now) lost at.page).reads) × (result.reads ≤ 7)
-        × (result.origin ≡ (fetch (layout_of g) (images chips.now records.now slots.now) lost at.page).origin)
-        × (direct ≡ false → work.new ≡ contents (layout_of g) (images chips.now records.now slots.now) lost at.page) }
-{
-    if direct {
-        return Got {
-            reads: 1,
-            origin: Origin::Direct,
-        };
-    }
-    fetch_member(work, chips, records, slots, g, lost, at.stripe, at.member)
-}
-
 // A page of the log, looked at.
 #[derive(Clone, Copy)]
 struct Looked {
@@ -334,73 +301,79 @@ struct Looked {
     latest: Latest,
 }
 
-// Looks at a page: where it lies, if it can be read off its chip, and else in the work page.
-fn look_at_page(
-    work: &mut [u8],
-    chips: &[u8],
-    records: &[u8],
-    slots: &[u8],
-    g: Geometry,
+// The log of a store whose records are sound, looked at for a lot and bag.
+#[derive(Clone, Copy)]
+struct Log<'a> {
+    view: View<'a>,
     lost: usize,
-    at: Position,
     lot: u32,
     bag: u16,
-    before: Latest,
-) -> Looked
-    requires { ChipsFit g chips.now × RecordsFit g records.now × SlotsFit g slots.now × (length work.old ≡ g.w)
-        × ((j : ℕ) → j < g.s → record_sound (layout_of g) (record_at (layout_of g) records.now j) ≡ true)
-        × (at ≡ position_of (layout_of g) at.page) × (at.page < g.n * g.s) }
-    ensures { PageLooked (layout_of g) (images chips.now records.now slots.now) lost lot bag at.page before result }
-{
-    let direct = is_direct(records, g, lost, at.stripe, at.parity, at.member);
-    let got = fetch_apart(work, chips, records, slots, g, lost, at, direct);
-    let page = lent(
-        chips, work, records, g, at.stripe, at.parity, at.member, direct,
-    );
-    let shown = look_at(page, lot, bag);
-    let origin = got.origin;
-    let latest = latest_of(page, shown, origin, before);
-    Looked {
-        shown,
-        reads: got.reads,
-        origin,
-        latest,
+    ghost sound: { (j : ℕ) → j < view.g.s → record_sound (layout_of view.g) (record_at (layout_of view.g) view.records.now j) ≡ true },
+}
+
+impl Log<'_> {
+    // A page that cannot be read off its chip is fetched to the work page.
+    fn fetch_apart(&self, work: &mut [u8], at: Position, direct: bool) -> Got
+        requires { (length work.old ≡ self.now.view.g.w)
+            × (at ≡ position_of (layout_of self.now.view.g) at.page) × (at.page < self.now.view.g.n * self.now.view.g.s)
+            × (direct ≡ is_direct (layout_of self.now.view.g) (record_at (layout_of self.now.view.g) self.now.view.records.now at.stripe) self.now.lost at.stripe at.member) }
+        ensures { (result.reads ≡ (fetch (layout_of self.now.view.g) (images self.now.view.chips.now self.now.view.records.now self.now.view.slots.now) self.now.lost at.page).reads)
+            × (result.reads ≤ 7)
+            × (result.origin ≡ (fetch (layout_of self.now.view.g) (images self.now.view.chips.now self.now.view.records.now self.now.view.slots.now) self.now.lost at.page).origin)
+            × (direct ≡ false → work.new
+            ≡ contents (layout_of self.now.view.g) (images self.now.view.chips.now self.now.view.records.now self.now.view.slots.now) self.now.lost at.page) }
+    {
+        if direct {
+            return Got {
+                reads: 1,
+                origin: Origin::Direct,
+            };
+        }
+        self.view
+            .fetch_member(work, self.lost, at.stripe, at.member)
+    }
+
+    // Looks at a page: where it lies, if it can be read off its chip, and else in the work page.
+    fn look_at_page(&self, work: &mut [u8], at: Position, before: Latest) -> Looked
+        requires { (length work.old ≡ self.now.view.g.w)
+            × (at ≡ position_of (layout_of self.now.view.g) at.page) × (at.page < self.now.view.g.n * self.now.view.g.s) }
+        ensures { PageLooked (layout_of self.now.view.g) (images self.now.view.chips.now self.now.view.records.now self.now.view.slots.now)
+            self.now.lost self.now.lot self.now.bag at.page before result }
+    {
+        let v = &self.view;
+        let (j, parity, m) = (at.stripe, at.parity, at.member);
+        let direct = is_direct(v.records, v.g, self.lost, j, parity, m);
+        let got = self.fetch_apart(work, at, direct);
+        let page = lent(v.chips, work, v.records, v.g, j, parity, m, direct);
+        let shown = look_at(page, self.lot, self.bag);
+        let origin = got.origin;
+        let latest = latest_of(page, shown, origin, before);
+        Looked {
+            shown,
+            reads: got.reads,
+            origin,
+            latest,
+        }
     }
 }
 
-// What a walk of the log tells.
+// What a walk tells of a log none of whose tickets breaks the rules.
 #[derive(Clone, Copy)]
 pub struct Walk {
-    // no ticket before its end breaks the rules
-    pub sound: bool,
     // the place of its end; a log that fills every page has none
-    pub end: Found,
+    pub end: Option<usize>,
     pub reads: u64,
     // what stands for the lot and bag
-    pub standing: Standing,
+    pub standing: Option<Weight>,
     // how its page was got; where nothing stands, the greatest origin of the pages up to the log's end
     pub origin: Origin,
 }
 
-// A log with a ticket that breaks the rules.
-fn broken() -> Walk
-    ensures { result ≡ brokenWalk }
-{
-    Walk {
-        sound: false,
-        end: Found::Nothing,
-        reads: 0,
-        standing: Standing::Nothing,
-        origin: Origin::Unwritten,
-    }
-}
-
 // A log whose tickets are sound, with the greatest origin of its pages.
-fn whole(end: Found, reads: u64, latest: Latest, greatest: Origin) -> Walk
+fn whole(end: Option<usize>, reads: u64, latest: Latest, greatest: Origin) -> Walk
     ensures { result ≡ wholeWalk end reads latest greatest }
 {
     Walk {
-        sound: true,
         end,
         reads,
         standing: standing_of(latest),
@@ -408,23 +381,20 @@ fn whole(end: Found, reads: u64, latest: Latest, greatest: Origin) -> Walk
     }
 }
 
-// Walks the log page by page.
-pub fn walk_log(
-    work: &mut [u8],
-    chips: &[u8],
-    records: &[u8],
-    slots: &[u8],
-    g: Geometry,
-    lost: usize,
-    lot: u32,
-    bag: u16,
-) -> Walk
-    requires { ChipsFit g chips.now × RecordsFit g records.now × SlotsFit g slots.now × (length work.old ≡ g.w)
-        × ((j : ℕ) → j < g.s → record_sound (layout_of g) (record_at (layout_of g) records.now j) ≡ true) }
-    ensures { Walked (layout_of g) (images chips.now records.now slots.now) lost lot bag result }
+// Walks the log page by page; of a log with a ticket that breaks the rules it tells nothing.
+pub fn walk_log(work: &mut [u8], view: &View<'_>, lost: usize, lot: u32, bag: u16) -> Option<Walk>
+    requires { (length work.old ≡ view.now.g.w)
+        × ((j : ℕ) → j < view.now.g.s → record_sound (layout_of view.now.g) (record_at (layout_of view.now.g) view.now.records.now j) ≡ true) }
+    ensures { Walked (layout_of view.now.g) (images view.now.chips.now view.now.records.now view.now.slots.now) lost lot bag result }
 {
+    let log = Log {
+        view: *view,
+        lost,
+        lot,
+        bag,
+    };
     let per_page = work.len() / TICKET;
-    let pages = g.n as usize * g.s as usize;
+    let pages = view.g.n as usize * view.g.s as usize;
     let mut latest = Latest {
         kind: 0,
         gross: 0,
@@ -433,9 +403,10 @@ pub fn walk_log(
     };
     let mut reads = 0;
     let mut greatest = Origin::Unwritten;
-    let mut at = first_page(g);
+    let mut at = first_page(view.g);
+    // a for loop would be no plainer: the position counts the pages itself
     while at.page < pages {
-        let seen = look_at_page(work, chips, records, slots, g, lost, at, lot, bag, latest);
+        let seen = log.look_at_page(work, at, latest);
         reads += seen.reads;
         latest = seen.latest;
         let origin = seen.origin;
@@ -443,14 +414,14 @@ pub fn walk_log(
         greatest = with_page;
         let shown = seen.shown;
         if !shown.ended {
-            return broken();
+            return None;
         }
         if shown.kept < per_page {
-            let end = Found::At(at.page * per_page + shown.kept);
-            return whole(end, reads, latest, greatest);
+            let end = Some(at.page * per_page + shown.kept);
+            return Some(whole(end, reads, latest, greatest));
         }
-        let next = next_page(g, at);
+        let next = next_page(view.g, at);
         at = next;
     }
-    whole(Found::Nothing, reads, latest, greatest)
+    Some(whole(None, reads, latest, greatest))
 }

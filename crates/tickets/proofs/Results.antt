@@ -2,14 +2,15 @@
 use Prim.Native.Nat.{ℕ, ◌^◌, ◌≤◌, ◌<◌, min}
 use native.Mathlib.Omega.{arith}
 use mathlib.Core.Path.{◌≡◌, refl, sym, ap, ◌∙◌}
-use mathlib.Core.Bool.{Bool, true, false, ◌&&◌}
+use mathlib.Core.Bool.{Bool, true, false}
 use mathlib.Core.List.{List, [], ◌∷◌, ◌++◌}
 use lib.ListN.{length}
 use lib.Dec.{lit≤, eqb}
 use borrow.Author.Tests.{eqb-true}
-use Rattle.ranges.specs.declared.Found.TheVariants.{At, Nothing}
+use Rattle.std.specs.Prelude.{Option, Some, None, Result, Ok, Err, ok_or}
+use Rattle.std.proofs.lemmas.List.{append_assoc}
 use Rattle.ranges.specs.Look.{when_found}
-use Rattle.ranges.proofs.Looks.{first_at}
+use Rattle.ranges.proofs.Looks.{both, first_at}
 use Rattle.layout.specs.declared.Geometry.{Geometry}
 use Rattle.layout.specs.Layout.{Layout, layout_of, no_chip}
 use Rattle.layout.specs.Images.{Images}
@@ -18,50 +19,44 @@ use Rattle.steps.specs.declared.Progress.{Progress}
 use Rattle.steps.specs.Steps.{reading}
 use Rattle.steps.specs.Allowance.{started, Ran}
 use Rattle.rules.specs.declared.Refusal.{Refusal}
-use Rattle.rules.specs.declared.Refusal.TheVariants.{ChipSet, Data, Tickets, FullLog}
-use Rattle.rules.specs.declared.Check.{Check}
-use Rattle.rules.specs.declared.Check.TheVariants.{Passed, Failed}
-use Rattle.rules.specs.declared.Answer.TheVariants.{Refused}
-use Rattle.rules.specs.declared.Finding.TheVariants.{Done as FindDone, Refused as FindRefused}
+use Rattle.rules.specs.declared.Refusal.TheVariants.{Data, Tickets, FullLog}
+use Rattle.rules.specs.Refusals.{Check, Row, checked, chip_set_row, images_rows, settled_rows, log_row, find_rows, add_rows}
 use Rattle.rules.specs.Tickets.{ticket_bytes, ticket_of, is_empty, ticket_sound}
 use Rattle.rules.specs.Log.{places, falls_in, ticket_at, contents, log_end, log_open, log_reads, with_ticket, add_steps}
 use Rattle.rules.specs.Write.{write_steps}
-use Rattle.rules.specs.Refusals.{Row, unless, checked, chip_set_row, images_rows, settled_rows, log_row, find_rows, add_rows}
 use Rattle.rules.specs.Calls.{Outcome, add_call, find_call}
-use Rattle.rules.proofs.Soundness.Table.{rows_passed, below_passed, below_failed, both_passed}
+use Rattle.rules.proofs.Soundness.Table.{rows_passed, below_passed, below_failed}
 use Rattle.rules.specs.Capacitor.{write_needs}
 use Rattle.rules.proofs.Capacitor.{stores_needed}
 use Rattle.rules.proofs.Lists.Answers.{answer_of, call_refused, call_ran}
 use Rattle.looks.specs.declared.Look.{Look}
-use Rattle.looks.specs.Looks.{below, look_of}
-use Rattle.looks.proofs.Passing.{rows_below, rows_told, one_more, settled_images, ImagesFit, images_fit, Ready, ready}
+use Rattle.looks.specs.Looks.{look_of}
+use Rattle.looks.proofs.Passing.{told_of, found_told, top_refused, mid_refused, below_decide, look_passed, settled_images, ImagesFit, images_fit, Ready, ready}
 use Rattle.ticket_log.specs.declared.Walk.{Walk}
 use Rattle.ticket_log.specs.Walks.{walk_of}
-use Rattle.ticket_log.proofs.Walking.{told_sound, told_whole}
+use Rattle.ticket_log.proofs.Walking.{told_broken, told_whole}
 
--- the rows of an addition about what is given, and below them those about the log
-abbrev pub free_rows : List ℕ → ℕ → List Row
-free_rows ticket lost = (eqb (length ticket) ticket_bytes, Data) ∷ chip_set_row lost ∷ []
+-- a search that finds nothing is refused with its row
+abbrev is_found : {A : Type 0} → Result A Refusal → Bool
+is_found (Ok x) = true
+is_found (Err r) = false
 
-abbrev pub given_rows : List ℕ → List Row
-given_rows ticket = (ticket_sound (ticket_of ticket), Tickets) ∷ []
+abbrev refusal_in : {A : Type 0} → Refusal → Result A Refusal → Refusal
+refusal_in other (Ok x) = other
+refusal_in other (Err r) = r
 
--- a ticket of another length is refused for its length, so its rules count only where it has the right one
-given_below : (first : Check) (fits free sound : Bool)
-    → below (below (below first (unless fits Data Passed)) (unless free ChipSet Passed)) (unless (fits && sound) Tickets Passed)
-    ≡ below (below first (unless fits Data (unless free ChipSet Passed))) (unless sound Tickets Passed)
-given_below Passed true free sound = refl
-given_below Passed false free sound = refl
-given_below (Failed r) fits free sound = refl
+nothing_found : {A : Type 0} (w : Option A) (row : Refusal) {r : Refusal} → ok_or w row ≡ Err r → (w ≡ None) × (row ≡ r)
+nothing_found None row e = (refl, ap (refusal_in row) e)
+nothing_found (Some x) row e = both _ refl (ap is_found e)
 
-pub given_told : (first : Check) (fits free sound : Bool) {one two three : Check} {both : Bool} → one ≡ below first (unless fits Data Passed) → two ≡ below one (unless free ChipSet Passed)
-    → both ≡ fits && sound → three ≡ below two (unless both Tickets Passed)
-    → three ≡ below (below first (unless fits Data (unless free ChipSet Passed))) (unless sound Tickets Passed)
-given_told first fits free sound a b c d = d ∙ rw (b, a, c) (given_below first fits free sound)
+-- the rows of an addition about what is given
+abbrev pub given_rows : List ℕ → ℕ → List Row
+given_rows ticket lost = (eqb (length ticket) ticket_bytes, Data) ∷ chip_set_row lost ∷ (ticket_sound (ticket_of ticket), Tickets) ∷ []
 
 -- what an addition relies on whose rows have passed as far as they are about what is given
 pub record AddReady (g : Geometry) (s : Images) (lost : ℕ) (ticket : List ℕ) (look : Look) : Type 0 where
-  pub rows : checked ((settled_rows (layout_of g) s lost ++ free_rows ticket lost) ++ given_rows ticket) ≡ Passed
+  pub top : checked (settled_rows (layout_of g) s lost) ≡ Ok tt
+  pub given : checked (given_rows ticket lost) ≡ Ok tt
   pub ready : Ready g s look
   pub fit : ImagesFit g s
   pub whole : length ticket ≡ ticket_bytes
@@ -73,16 +68,19 @@ module _ (g : Geometry) (s : Images) (lost : ℕ) where
   -- ---- find
 
   module _ (lot bag : ℕ) where
-    pub find_refused : (r : Refusal) → checked (images_rows l s lost) ≡ Failed r → FindRefused r ≡ find_call l s lost lot bag
+    pub find_refused : {r : Refusal} → checked (images_rows l s lost) ≡ Err r → Err r ≡ find_call l s lost lot bag
     unfolding find_call find_rows
-    find_refused r e = rw (below_failed (images_rows l s lost) (log_row l s lost ∷ []) r e)
+    find_refused {r} e = rw (below_failed (images_rows l s lost) (log_row l s lost ∷ []) r e)
 
-    pub find_broken : {w : Walk} → checked (images_rows l s lost) ≡ Passed → w ≡ walk_of l s lost lot bag → w.sound ≡ false → FindRefused Tickets ≡ find_call l s lost lot bag
+    pub find_broken : {w : Option Walk} {k : Result Walk Refusal} {r : Refusal} → checked (images_rows l s lost) ≡ Ok tt → w ≡ walk_of l s lost lot bag
+        → k ≡ ok_or w Tickets → k ≡ Err r → Err r ≡ find_call l s lost lot bag
     unfolding find_call find_rows
-    find_broken e told h = rw (below_passed (images_rows l s lost) (log_row l s lost ∷ []) e, told_sound l s lost lot bag told ∙ h)
+    find_broken {w} e told f h =
+        let none = nothing_found w Tickets (sym f ∙ h) in
+        rw (below_passed (images_rows l s lost) (log_row l s lost ∷ []) e, told_broken l s lost lot bag told none.0, sym none.1)
 
-    pub find_done : {w : Walk} → checked (images_rows l s lost) ≡ Passed → w ≡ walk_of l s lost lot bag → w.sound ≡ true
-        → FindDone (reading w.reads) w.standing w.origin ≡ find_call l s lost lot bag
+    pub find_done : {w : Option Walk} {x : Walk} → checked (images_rows l s lost) ≡ Ok tt → w ≡ walk_of l s lost lot bag → w ≡ Some x
+        → Ok (record { counts = reading x.reads; standing = x.standing; origin = x.origin }) ≡ find_call l s lost lot bag
     unfolding find_call find_rows
     find_done e told h =
         let t = told_whole l s lost lot bag told h in
@@ -91,74 +89,80 @@ module _ (g : Geometry) (s : Images) (lost : ℕ) where
   -- ---- add
 
   module _ (ticket : List ℕ) where
-    abbrev above : List Row
-    above = (settled_rows l s lost ++ free_rows ticket lost) ++ given_rows ticket
-
     abbrev log_rows : List Row
     log_rows = log_row l s lost ∷ (log_open l (contents l s lost), FullLog) ∷ []
 
-    pub add_told : {look : Look} {k : Check} → look ≡ look_of l s lost (checked (settled_rows l s lost))
-        → k ≡ below (below look.check (checked (free_rows ticket lost))) (checked (given_rows ticket)) → k ≡ checked above
-    add_told {look} seen e =
-        e ∙ ap (λ (x : Check). below x (checked (given_rows ticket))) (rows_told l s lost (settled_rows l s lost) (free_rows ticket lost) seen refl)
-        ∙ sym (rows_below (settled_rows l s lost ++ free_rows ticket lost) (given_rows ticket))
-
-    pub add_ready : {look : Look} {k : Check} → look ≡ look_of l s lost (checked (settled_rows l s lost)) → k ≡ checked above → k ≡ Passed → AddReady g s lost ticket look
-    add_ready seen told passed =
-        let e = sym told ∙ passed in
-        let mid = (both_passed (settled_rows l s lost ++ free_rows ticket lost) (given_rows ticket) e).0 in
-        let (top, free) = both_passed (settled_rows l s lost) (free_rows ticket lost) mid in
-        let h = rows_passed (free_rows ticket lost) free in
-        let none_lost = eqb-true lost no_chip h.1.0 in
+    pub add_ready : {given : Result Look Refusal} {look : Look} {k : Check} → given ≡ look_of l s lost (checked (settled_rows l s lost)) → given ≡ Ok look
+        → k ≡ checked (given_rows ticket lost) → k ≡ Ok tt → AddReady g s lost ticket look
+    add_ready seen found e f =
+        let passed = sym e ∙ f in
+        let h = rows_passed (given_rows ticket lost) passed in
+        let top = look_passed l s lost seen found in
         record {
-          rows = e;
-          ready = ready g s lost seen top none_lost;
+          top = top;
+          given = passed;
+          ready = ready g s lost seen found (eqb-true lost no_chip h.1.0);
           fit = images_fit g s lost (settled_images l s lost top);
           whole = eqb-true (length ticket) ticket_bytes h.0;
         }
 
-    -- the rows about the log come below
-    rows_split : checked (add_rows l s lost ticket) ≡ below (checked above) (checked log_rows)
+    -- the rows as the code goes through them
+    rows_split : checked (add_rows l s lost ticket) ≡ checked ((settled_rows l s lost ++ given_rows ticket lost) ++ log_rows)
     unfolding add_rows
     rows_split =
-        rows_below (settled_rows l s lost ++ free_rows ticket lost) ((ticket_sound (ticket_of ticket), Tickets) ∷ log_rows)
-        ∙ sym (one_more (checked (settled_rows l s lost ++ free_rows ticket lost)) (ticket_sound (ticket_of ticket)) Tickets (checked log_rows))
-        ∙ ap (λ (x : Check). below x (checked log_rows)) (sym (rows_below (settled_rows l s lost ++ free_rows ticket lost) (given_rows ticket)))
+        let free = (eqb (length ticket) ticket_bytes, Data) ∷ chip_set_row lost ∷ [] in
+        ap checked
+        (append_assoc (settled_rows l s lost) free ((ticket_sound (ticket_of ticket), Tickets) ∷ log_rows)
+        ∙ sym (append_assoc (settled_rows l s lost) (given_rows ticket lost) log_rows))
 
     module _ (a : ℕ) where
-      refused_by : (r : Refusal) → checked (add_rows l s lost ticket) ≡ Failed r → ◌≡◌ {A = Outcome} (record { answer = Refused r; images = s }) (add_call l s lost ticket a)
+      refused_by : {r : Refusal} → checked ((settled_rows l s lost ++ given_rows ticket lost) ++ log_rows) ≡ Err r
+          → ◌≡◌ {A = Outcome} (record { answer = Err r; images = s }) (add_call l s lost ticket a)
       unfolding add_call
-      refused_by r e = call_refused l (reading (log_reads l s lost)) s a (add_steps l lost ticket) (add_rows l s lost ticket) r e
+      refused_by {r} e = call_refused l (reading (log_reads l s lost)) s a (add_steps l lost ticket) (add_rows l s lost ticket) r (rows_split ∙ e)
 
-      pub add_refused : (r : Refusal) → checked above ≡ Failed r → ◌≡◌ {A = Outcome} (record { answer = Refused r; images = s }) (add_call l s lost ticket a)
-      add_refused r e = refused_by r (rows_split ∙ rw e)
+      -- refused by rows 1 to 6, by the rows about what is given
+      pub add_first : {r : Refusal} → checked (settled_rows l s lost) ≡ Err r → ◌≡◌ {A = Outcome} (record { answer = Err r; images = s }) (add_call l s lost ticket a)
+      add_first e = refused_by (top_refused (settled_rows l s lost) (given_rows ticket lost) log_rows e)
 
-      module _ {look : Look} (e : AddReady g s lost ticket look) {w : Walk} (lot bag : ℕ) (told : w ≡ walk_of l s lost lot bag) where
-        pub add_broken : w.sound ≡ false → ◌≡◌ {A = Outcome} (record { answer = Refused Tickets; images = s }) (add_call l s lost ticket a)
-        add_broken h = refused_by Tickets (rows_split ∙ rw (e.rows, told_sound l s lost lot bag told ∙ h))
+      pub add_second : {r : Refusal} → checked (settled_rows l s lost) ≡ Ok tt → checked (given_rows ticket lost) ≡ Err r
+          → ◌≡◌ {A = Outcome} (record { answer = Err r; images = s }) (add_call l s lost ticket a)
+      add_second e f = refused_by (mid_refused (settled_rows l s lost) (given_rows ticket lost) log_rows e f)
 
-        pub add_full : w.sound ≡ true → w.end ≡ Nothing → ◌≡◌ {A = Outcome} (record { answer = Refused FullLog; images = s }) (add_call l s lost ticket a)
-        unfolding log_open when_found
-        add_full h full =
+      module _ {look : Look} (e : AddReady g s lost ticket look) {w : Option Walk} (lot bag : ℕ) (told : w ≡ walk_of l s lost lot bag) where
+        -- the rows about the log decide
+        log_decides : checked ((settled_rows l s lost ++ given_rows ticket lost) ++ log_rows) ≡ checked log_rows
+        log_decides = below_decide (settled_rows l s lost) (given_rows ticket lost) log_rows e.top e.given
+
+        pub add_broken : {k : Result Walk Refusal} {r : Refusal} → k ≡ ok_or w Tickets → k ≡ Err r
+            → ◌≡◌ {A = Outcome} (record { answer = Err r; images = s }) (add_call l s lost ticket a)
+        add_broken f h =
+            let none = nothing_found w Tickets (sym f ∙ h) in
+            refused_by (log_decides ∙ rw (told_broken l s lost lot bag told none.0, none.1))
+
+        pub add_full : {x : Walk} {k : Result ℕ Refusal} {r : Refusal} → w ≡ Some x → k ≡ ok_or x.end FullLog → k ≡ Err r
+            → ◌≡◌ {A = Outcome} (record { answer = Err r; images = s }) (add_call l s lost ticket a)
+        unfolding log_open
+        add_full {x} h f full =
             let t = told_whole l s lost lot bag told h in
-            refused_by FullLog (rows_split ∙ rw (e.rows, t.0, t.1 ∙ full))
+            refused_by (log_decides ∙ rw (t.0, t.1) (found_told x.end FullLog ∙ ap told_of (sym f ∙ full)))
 
         -- the end of the log is one of its places
-        pub end_inside : w.sound ≡ true → (t : ℕ) → w.end ≡ At t → t < places l
+        pub end_inside : {x : Walk} → w ≡ Some x → (t : ℕ) → x.end ≡ Some t → t < places l
         unfolding log_end
         end_inside h t end =
             let is = (told_whole l s lost lot bag told h).1 ∙ end in
             (first_at (places l) (λ t. is_empty (ticket_at l (contents l s lost) t)) t is).0
 
-        pub add_ran : {p q : Progress} {u : Images} → w.sound ≡ true → (t : ℕ) → w.end ≡ At t → p ≡ started (reading w.reads) (min a (2 ^ 59))
+        pub add_ran : {x : Walk} {p q : Progress} {u : Images} → w ≡ Some x → (t : ℕ) → x.end ≡ Some t → p ≡ started (reading x.reads) (min a (2 ^ 59))
             → Ran l p (write_steps l (falls_in l t) (with_ticket l (contents l s lost) ticket t) s) q s u
-            → ◌≡◌ {A = Outcome} (record { answer = answer_of q; images = u }) (add_call l s lost ticket a)
+            → ◌≡◌ {A = Outcome} (record { answer = Ok (answer_of q); images = u }) (add_call l s lost ticket a)
         unfolding add_call log_open add_steps when_found
         add_ran h t end begun ran =
             let is = told_whole l s lost lot bag told h in
             let at_end = is.1 ∙ end in
             let page = with_ticket l (contents l s lost) ticket t in
-            let passed : checked (add_rows l s lost ticket) ≡ Passed = rows_split ∙ rw (e.rows, is.0, at_end) in
+            let passed : checked (add_rows l s lost ticket) ≡ Ok tt = rows_split ∙ log_decides ∙ rw (is.0, at_end) in
             let short : length (write_steps l (falls_in l t) page s) ≤ write_needs l = rw at_end at ((stores_needed l (lit≤ tt) (lit≤ tt)).add s lost ticket passed) in
             call_ran l (reading (log_reads l s lost)) s a (add_steps l lost ticket) (add_rows l s lost ticket) (write_steps l (falls_in l t) page s)
             passed (rw at_end) (omega (arith, short, places_most l e.fit.within_limits))

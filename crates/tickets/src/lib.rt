@@ -2,7 +2,7 @@
 
 #![tactic(auto)]
 
-ghost use Rattle.std.specs.Prelude.{◌≡◌, true, ◌&&◌, [], ◌∷◌, ℕ, ◌<◌, eqb, length};
+ghost use Rattle.std.specs.Prelude.{◌≡◌, true, [], ◌∷◌, ℕ, ◌<◌, eqb, length};
 ghost use Rattle.layout.specs.Layout.{layout_of};
 ghost use Rattle.layout.specs.Record.{record_at};
 ghost use Rattle.steps.specs.Allowance.{images, Sane, Ran};
@@ -17,14 +17,12 @@ ghost use Rattle.codec.specs.Fit.{SlotsFit};
 ghost use Rattle.names.specs.Checked.{Settled};
 ghost use Rattle.records.specs.Slots.{slot_scan};
 ghost use Rattle.space.specs.Victims.{Victims};
-ghost use Rattle.looks.specs.Looks.{below};
 
 use answers::answer;
 use device::start_after;
-use fetch::fetch_member;
+use fetch::View;
 use layout::{Geometry, NO_CHIP};
-use looks::{also, images_look, settled_look};
-use ranges::Found;
+use looks::{images_look, require, settled_look};
 use records::SlotScan;
 use rules::{Answer, Check, Finding, Refusal};
 use spares::ChipScan;
@@ -32,24 +30,14 @@ use steps::{Counts, Progress};
 use ticket_log::{TICKET, is_sound, put_ticket, ticket_in, walk_log};
 use write::write_member;
 
-// Whether these bytes are a ticket that keeps its rules.
-fn is_ticket(ticket: &[u8]) -> bool
-    ensures { result ≡ eqb (length ticket.now) ticket_bytes && ticket_sound (ticket_of ticket.now) }
+// Rows 8, 9 and 11 of an addition as far as they are about what is given.
+fn given_check(ticket: &[u8], lost: u64) -> Check
+    ensures { result ≡ checked ((eqb (length ticket.now) ticket_bytes, Data) ∷ chip_set_row lost
+        ∷ (ticket_sound (ticket_of ticket.now), Tickets) ∷ []) }
 {
-    if ticket.len() != TICKET {
-        return false;
-    }
-    is_sound(ticket_in(ticket, 0))
-}
-
-// Rows 8, 9 and 11 of an addition as far as they are about what is given, below the others.
-fn given_check(first: Check, ticket: &[u8], lost: u64) -> Check
-    ensures { result ≡ below (below first (checked ((eqb (length ticket.now) ticket_bytes, Data) ∷ chip_set_row lost ∷ [])))
-        (checked ((ticket_sound (ticket_of ticket.now), Tickets) ∷ [])) }
-{
-    let fits = also(first, ticket.len() == TICKET, Refusal::Data);
-    let free = also(fits, lost == NO_CHIP as u64, Refusal::ChipSet);
-    also(free, is_ticket(ticket), Refusal::Tickets)
+    require(ticket.len() == TICKET, Refusal::Data)?;
+    require(lost == NO_CHIP as u64, Refusal::ChipSet)?;
+    require(is_sound(ticket_in(ticket, 0)), Refusal::Tickets)
 }
 
 // Writes the page that place t falls in, with the ticket there.
@@ -81,8 +69,14 @@ fn append(
     let i = t / per_page;
     let j = i / g.n as usize;
     let m = i % g.n as usize;
+    let view = View {
+        g,
+        chips,
+        records,
+        slots,
+    };
     // its read is among those of the walk
-    let _got = fetch_member(page, chips, records, slots, g, lost, j, m);
+    let _got = view.fetch_member(page, lost, j, m);
     put_ticket(page, t % per_page, ticket);
     let mut work = [0u8; 4096];
     let fresh = &mut work[0..w];
@@ -98,46 +92,40 @@ pub fn add(
     lost: u64,
     ticket: &[u8],
     allowance: u64,
-) -> Answer
+) -> Result<Answer, Refusal>
     ensures { ◌≡◌ {A = Outcome}
         (record { answer = result; images = images chips.new records.new slots.new })
         (add_call (layout_of g) (images chips.old records.old slots.old) lost ticket.now allowance) }
 {
     let chip = lost as usize;
-    let look = settled_look(g, chips, records, slots, chip);
-    let first = look.check;
-    let check = given_check(first, ticket, lost);
-    if let Check::Failed(r) = check {
-        return Answer::Refused(r);
-    }
+    let look = settled_look(g, chips, records, slots, chip)?;
+    given_check(ticket, lost)?;
     let mut page = [0u8; 4096];
     let w = g.w as usize;
-    let log = walk_log(&mut page[0..w], chips, records, slots, g, chip, 0, 0);
-    if !log.sound {
-        return Answer::Refused(Refusal::Tickets);
-    }
-    let end = log.end;
-    match end {
-        Found::At(t) => {
-            let scans = look.chips;
-            let seen = look.slots;
-            let p = start_after(log.reads, allowance);
-            answer(append(
-                chips,
-                records,
-                slots,
-                &mut page[0..w],
-                g,
-                chip,
-                t,
-                ticket,
-                scans,
-                seen,
-                p,
-            ))
-        }
-        Found::Nothing => Answer::Refused(Refusal::FullLog),
-    }
+    let view = View {
+        g,
+        chips,
+        records,
+        slots,
+    };
+    let log = walk_log(&mut page[0..w], &view, chip, 0, 0).ok_or(Refusal::Tickets)?;
+    let t = log.end.ok_or(Refusal::FullLog)?;
+    let scans = look.chips;
+    let seen = look.slots;
+    let p = start_after(log.reads, allowance);
+    Ok(answer(append(
+        chips,
+        records,
+        slots,
+        &mut page[0..w],
+        g,
+        chip,
+        t,
+        ticket,
+        scans,
+        seen,
+        p,
+    )))
 }
 
 // Finds the weight that stands for a lot and bag.
@@ -149,31 +137,26 @@ pub fn find(
     lost: u64,
     lot: u32,
     bag: u16,
-) -> Finding
+) -> Result<Finding, Refusal>
     ensures { result ≡ find_call (layout_of g) (images chips.now records.now slots.now) lost lot bag }
 {
     let chip = lost as usize;
-    let look = images_look(g, chips, records, slots, chip);
-    let check = look.check;
-    if let Check::Failed(r) = check {
-        return Finding::Refused(r);
-    }
+    images_look(g, chips, records, slots, chip)?;
     let mut page = [0u8; 4096];
     let w = g.w as usize;
-    let log = walk_log(&mut page[0..w], chips, records, slots, g, chip, lot, bag);
-    if !log.sound {
-        return Finding::Refused(Refusal::Tickets);
-    }
+    let view = View {
+        g,
+        chips,
+        records,
+        slots,
+    };
+    let log = walk_log(&mut page[0..w], &view, chip, lot, bag).ok_or(Refusal::Tickets)?;
+    let counts = Counts::of_reads(log.reads);
     let standing = log.standing;
     let origin = log.origin;
-    Finding::Done(
-        Counts {
-            reads: log.reads,
-            programs: 0,
-            erases: 0,
-            stores: 0,
-        },
+    Ok(Finding {
+        counts,
         standing,
         origin,
-    )
+    })
 }

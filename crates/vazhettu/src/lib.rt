@@ -1,4 +1,4 @@
-//! The calls for C and Rust: slices as pointer and length, the answer as a struct of numbers.
+//! The calls for C and Rust: slices as pointer and length, the answer as a struct of numbers. They are alike but for what C passes.
 
 #![tactic(auto)]
 
@@ -6,45 +6,11 @@ ghost use Rattle.std.specs.Prelude.{◌≡◌};
 ghost use Rattle.layout.specs.Layout.{layout_of};
 ghost use Rattle.steps.specs.Allowance.{images};
 ghost use Rattle.rules.specs.Calls.{format_call, open_call, write_call, commit_call, collect_call, read_call, add_call, find_call};
-ghost use Rattle.vazhettu.specs.Reports.{reported, read_reported, Reported, reported_of, ReadReported, read_reported_of, find_reported};
+ghost use Rattle.answers.specs.Reports.{find_reported};
+ghost use Rattle.vazhettu.specs.Reports.{Reported, reported_of, ReadReported, read_reported_of};
 
-use answers::{
-    FindReport, ReadReport, Report, origin_number, with_counts, with_origin, with_standing,
-    without_counts, without_origin, without_standing,
-};
+use answers::{FindReport, ReadReport, Report};
 use layout::Geometry;
-use rules::{Answer, Finding, Reading};
-
-// A report of the answer of a call that stores.
-fn report_of(a: Answer) -> Report
-    ensures { result ≡ reported a }
-{
-    match a {
-        Answer::Done(c) => with_counts(0, c),
-        Answer::Cut(c) => with_counts(255, c),
-        Answer::Refused(r) => without_counts(r),
-    }
-}
-
-// A report of the answer of a read.
-fn read_report_of(a: Reading) -> ReadReport
-    ensures { result ≡ read_reported a }
-{
-    match a {
-        Reading::Done(c, o) => with_origin(0, c, origin_number(o)),
-        Reading::Refused(r) => without_origin(r),
-    }
-}
-
-// A report of the answer of a question.
-fn find_report_of(a: Finding) -> FindReport
-    ensures { result ≡ find_reported a }
-{
-    match a {
-        Finding::Done(c, x, o) => with_standing(0, c, x, origin_number(o)),
-        Finding::Refused(r) => without_standing(r),
-    }
-}
 
 // See calls::format.
 #[unsafe(no_mangle)]
@@ -59,7 +25,7 @@ pub extern "C" fn vazhettu_format(
         (record { report = result; images = images chips.new records.new slots.now })
         (reported_of (format_call (layout_of g) (images chips.old records.old slots.now) allowance)) }
 {
-    report_of(calls::format(g, chips, records, slots, allowance))
+    Report::from(calls::format(g, chips, records, slots, allowance))
 }
 
 // See calls::open.
@@ -76,7 +42,7 @@ pub extern "C" fn vazhettu_open(
         (record { report = result; images = images chips.new records.new slots.now })
         (reported_of (open_call (layout_of g) (images chips.old records.old slots.now) lost allowance)) }
 {
-    report_of(calls::open(g, chips, records, slots, lost, allowance))
+    Report::from(calls::open(g, chips, records, slots, lost, allowance))
 }
 
 // See calls::read.
@@ -94,7 +60,7 @@ pub extern "C" fn vazhettu_read(
         (record { report = result; buffer = buffer.new })
         (read_reported_of (read_call (layout_of g) (images chips.now records.now slots.now) lost page buffer.old)) }
 {
-    read_report_of(calls::read(g, chips, records, slots, lost, page, buffer))
+    ReadReport::from(calls::read(g, chips, records, slots, lost, page, buffer))
 }
 
 // See calls::write.
@@ -113,7 +79,7 @@ pub extern "C" fn vazhettu_write(
         (record { report = result; images = images chips.new records.new slots.new })
         (reported_of (write_call (layout_of g) (images chips.old records.old slots.old) lost page bytes.now allowance)) }
 {
-    report_of(calls::write(g, chips, records, slots, lost, page, bytes, allowance))
+    Report::from(calls::write(g, chips, records, slots, lost, page, bytes, allowance))
 }
 
 // See calls::commit.
@@ -131,7 +97,7 @@ pub extern "C" fn vazhettu_commit(
         (record { report = result; images = images chips.new records.new slots.now })
         (reported_of (commit_call (layout_of g) (images chips.old records.old slots.now) lost stripe allowance)) }
 {
-    report_of(calls::commit(g, chips, records, slots, lost, stripe, allowance))
+    Report::from(calls::commit(g, chips, records, slots, lost, stripe, allowance))
 }
 
 // See calls::collect.
@@ -149,7 +115,7 @@ pub extern "C" fn vazhettu_collect(
         (record { report = result; images = images chips.new records.new slots.now })
         (reported_of (collect_call (layout_of g) (images chips.old records.old slots.now) lost chip allowance)) }
 {
-    report_of(calls::collect(g, chips, records, slots, lost, chip, allowance))
+    Report::from(calls::collect(g, chips, records, slots, lost, chip, allowance))
 }
 
 // See tickets::add.
@@ -167,7 +133,7 @@ pub extern "C" fn vazhettu_add(
         (record { report = result; images = images chips.new records.new slots.new })
         (reported_of (add_call (layout_of g) (images chips.old records.old slots.old) lost ticket.now allowance)) }
 {
-    report_of(tickets::add(g, chips, records, slots, lost, ticket, allowance))
+    Report::from(tickets::add(g, chips, records, slots, lost, ticket, allowance))
 }
 
 // See tickets::find.
@@ -183,5 +149,5 @@ pub extern "C" fn vazhettu_find(
 ) -> FindReport
     ensures { result ≡ find_reported (find_call (layout_of g) (images chips.now records.now slots.now) lost lot bag) }
 {
-    find_report_of(tickets::find(g, chips, records, slots, lost, lot, bag))
+    FindReport::from(tickets::find(g, chips, records, slots, lost, lot, bag))
 }

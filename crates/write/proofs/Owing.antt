@@ -1,12 +1,11 @@
 -- The commit that a write may owe: what it leaves.
 use Prim.Native.Nat.{ℕ, ◌<◌}
 use native.Mathlib.Omega.{arith}
-use mathlib.Core.Path.{◌≡◌, refl}
+use mathlib.Core.Path.{◌≡◌, refl, sym, ap, ◌∙◌}
 use mathlib.Core.Bool.{true, false}
 use mathlib.Core.List.{List, []}
 use lib.ListN.{get_or}
-use Rattle.ranges.specs.declared.Found.{Found}
-use Rattle.ranges.specs.declared.Found.TheVariants.{At, Nothing}
+use Rattle.std.specs.Prelude.{Option, Some, None}
 use Rattle.ranges.specs.Look.{when_found, found_in}
 use Rattle.ranges.proofs.Looks.{least_at}
 use Rattle.layout.specs.declared.Geometry.{Geometry}
@@ -32,6 +31,8 @@ use Rattle.rules.proofs.Lists.Committing.{Committed, commit_closes}
 use Rattle.rules.proofs.Lists.Writing.{Ready, owed_leads}
 use Rattle.codec.specs.Fit.{SlotsFit}
 use Rattle.names.specs.Checked.{Settled}
+use Rattle.records.specs.declared.SlotScan.{SlotScan}
+use Rattle.records.specs.Slots.{slot_scan}
 use Rattle.spares.specs.declared.ChipScan.{ChipScan}
 use Rattle.spares.specs.Scans.{unscanned}
 use Rattle.space.specs.Victims.{VictimFor, Victims}
@@ -78,30 +79,34 @@ module _ (l : Layout) (j : ℕ) (s : Images) where
   unfolding owed_steps
   owed_not e = rw e
 
-  pub owed_commits : {k : ℕ} → commit_owed l (record_at l s.records) j ≡ true → cheapest l (record_at l s.records) ≡ At k → owed_steps l j s ≡ commit_steps l k s
+  pub owed_commits : {k : ℕ} → commit_owed l (record_at l s.records) j ≡ true → cheapest l (record_at l s.records) ≡ Some k → owed_steps l j s ≡ commit_steps l k s
   unfolding owed_steps when_found
   owed_commits e found = rw (e, found)
 
-  pub owed_nothing : commit_owed l (record_at l s.records) j ≡ true → cheapest l (record_at l s.records) ≡ Nothing → owed_steps l j s ≡ []
+  pub owed_nothing : commit_owed l (record_at l s.records) j ≡ true → cheapest l (record_at l s.records) ≡ None → owed_steps l j s ≡ []
   unfolding owed_steps when_found
   owed_nothing e found = rw (e, found)
 
 -- a victim, and a chip, by other names
-pub same_victim : {g : Geometry} {x r : List ℕ} {c d : ℕ} {v u : Found} → c ≡ d → v ≡ u → VictimFor g x r d u → VictimFor g x r c v
+pub same_victim : {g : Geometry} {x r : List ℕ} {c d : ℕ} {v u : Option ℕ} → c ≡ d → v ≡ u → VictimFor g x r d u → VictimFor g x r c v
 same_victim same e h = rw (same, e) h
 
 -- the victim that was scanned of a chip by another name
-pub victim_at : (scans : List ChipScan) {c d : ℕ} {v : Found} → v ≡ found_in (get_or scans c unscanned).victim → c ≡ d → v ≡ found_in (get_or scans d unscanned).victim
+pub victim_at : (scans : List ChipScan) {c d : ℕ} {v : Option ℕ} → v ≡ found_in (get_or scans c unscanned).victim → c ≡ d → v ≡ found_in (get_or scans d unscanned).victim
 victim_at scans e same = rw same at e
 
 -- the victim of the chip of the stripe to commit is known
-pub owed_victim : {g : Geometry} {x r : List ℕ} {scans : List ChipScan} {found u : Found} → Victims g x r scans
-    → u ≡ when_found found (λ k. found_in (get_or scans (parity_chip (layout_of g) k) unscanned).victim) Nothing
-    → (k : ℕ) → found ≡ At k → VictimFor g x r (parity_chip (layout_of g) k) u
+pub owed_victim : {g : Geometry} {x r : List ℕ} {scans : List ChipScan} {found u : Option ℕ} → Victims g x r scans
+    → u ≡ when_found found (λ k. found_in (get_or scans (parity_chip (layout_of g) k) unscanned).victim) None
+    → (k : ℕ) → found ≡ Some k → VictimFor g x r (parity_chip (layout_of g) k) u
 unfolding when_found
 owed_victim {g} h e k is = known_victim h (omega (arith, parity_chip_fits (layout_of g) k)) refl (rw is at e)
 
--- the stripe to commit is there, and has a slot
-pub cheapest_slotted : (l : Layout) (r : ℕ → Record) {k : ℕ} → cheapest l r ≡ At k → (k < l.S) × (has_slot (r k) ≡ true)
+-- the stripe to commit that the scan found is the cheapest; it is there, and has a slot
+pub scanned_slotted : (l : Layout) (r : ℕ → Record) {seen : SlotScan} {k : ℕ} → seen ≡ slot_scan l r → seen.cheapest ≡ Some k
+    → (cheapest l r ≡ Some k) × (k < l.S) × (has_slot (r k) ≡ true)
 unfolding cheapest
-cheapest_slotted l r {k} e = let (low, has, _, _) = least_at l.S (slotted r) (record_cost l r) k e in (low, has)
+scanned_slotted l r {seen} {k} scan is =
+    let e : cheapest l r ≡ Some k = sym (ap (λ (x : SlotScan). x.cheapest) scan) ∙ is in
+    let (low, has, _, _) = least_at l.S (slotted r) (record_cost l r) k e in
+    (e, low, has)

@@ -2,8 +2,7 @@
 
 #![tactic(auto)]
 
-ghost use Rattle.std.specs.Prelude.{◌≡◌, true, false, ℕ, ◌<◌, length, get_or};
-ghost use Rattle.ranges.specs.declared.Found.TheVariants.{At, Nothing};
+ghost use Rattle.std.specs.Prelude.{◌≡◌, true, false, ℕ, ◌<◌, length, get_or, Some, None};
 ghost use Rattle.ranges.specs.Look.{count_below, when_found, found_in};
 ghost use Rattle.layout.specs.Layout.{layout_of, limits};
 ghost use Rattle.layout.specs.Rotation.{member_chip, parity_chip};
@@ -24,7 +23,6 @@ use collect::make_room;
 use commit::commit_stripe;
 use layout::Geometry;
 use partial::write_at;
-use ranges::Found;
 use records::SlotScan;
 use space::{place_on, victim_in, victim_on};
 use spares::ChipScan;
@@ -39,23 +37,23 @@ fn is_owed(records: &[u8], g: Geometry, j: usize, slotted: usize) -> bool
 }
 
 // The lower of the free slot, if any, and slot t.
-fn lower(free: Found, t: usize) -> Found
+fn lower(free: Option<usize>, t: usize) -> Option<usize>
     ensures { result ≡ lower_of free t }
 {
     match free {
-        Found::At(i) => if i < t { Found::At(i) } else { Found::At(t) },
-        Found::Nothing => Found::At(t),
+        Some(i) => if i < t { Some(i) } else { Some(t) },
+        None => Some(t),
     }
 }
 
 // The victim of the chip that the parity of the cheapest stripe is on.
-fn commit_victim(g: Geometry, scans: [ChipScan; 7], cheapest: Found) -> Found
+fn commit_victim(g: Geometry, scans: [ChipScan; 7], cheapest: Option<usize>) -> Option<usize>
     requires { limits (layout_of g) ≡ true }
-    ensures { result ≡ when_found cheapest (λ k. found_in (get_or scans (parity_chip (layout_of g) k) unscanned).victim) Nothing }
+    ensures { result ≡ when_found cheapest (λ k. found_in (get_or scans (parity_chip (layout_of g) k) unscanned).victim) None }
 {
     match cheapest {
-        Found::At(k) => victim_in(scans[parity_chip(g, k)]),
-        Found::Nothing => Found::Nothing,
+        Some(k) => victim_in(scans[parity_chip(g, k)]),
+        None => None,
     }
 }
 
@@ -64,7 +62,7 @@ fn commit_victim(g: Geometry, scans: [ChipScan; 7], cheapest: Found) -> Found
 struct Owed {
     run: Progress,
     // the lowest free slot, where the run is not cut
-    free: Found,
+    free: Option<usize>,
 }
 
 // Commits the stripe of least cost, which is owed for a write to stripe j; v is the victim of its parity chip. Its slot is free then.
@@ -75,13 +73,13 @@ fn commit_owed(
     work: &mut [u8],
     g: Geometry,
     j: usize,
-    v: Found,
+    v: Option<usize>,
     seen: SlotScan,
     p: Progress,
 ) -> Owed
     requires { Settled g chips.old records.old × SlotsFit g slots.now × (length work.old ≡ g.w) × Sane p
         × (commit_owed (layout_of g) (record_at (layout_of g) records.old) j ≡ true)
-        × ((k : ℕ) → seen.cheapest ≡ At k → VictimFor g chips.old records.old (parity_chip (layout_of g) k) v)
+        × ((k : ℕ) → seen.cheapest ≡ Some k → VictimFor g chips.old records.old (parity_chip (layout_of g) k) v)
         × (seen ≡ slot_scan (layout_of g) (record_at (layout_of g) records.old)) }
     ensures { Ran (layout_of g) p (owed_steps (layout_of g) j (images chips.old records.old slots.now))
         result.run (images chips.old records.old slots.now) (images chips.new records.new slots.now)
@@ -90,7 +88,7 @@ fn commit_owed(
     let cheapest = seen.cheapest;
     let free = seen.free;
     match cheapest {
-        Found::At(k) => {
+        Some(k) => {
             let t = slot_at(records, g, k);
             let run = commit_stripe(chips, records, slots, work, g, k, v, p);
             Owed {
@@ -98,12 +96,12 @@ fn commit_owed(
                 free: lower(free, t),
             }
         }
-        Found::Nothing => Owed { run: p, free },
+        None => Owed { run: p, free },
     }
 }
 
 // Finds a place for member m of stripe j and writes it there; free is the lowest free slot. The victim of its chip is v, or is looked for
-// anew here, so that the arrays of that look do not stand on the stack below the whole write.
+// anew here, so that the arrays of that look do not stand on the stack below the whole write. An option of an option would be no plainer.
 fn place_member(
     chips: &mut [u8],
     records: &mut [u8],
@@ -114,8 +112,8 @@ fn place_member(
     m: usize,
     bytes: &[u8],
     anew: bool,
-    v: Found,
-    free: Found,
+    v: Option<usize>,
+    free: Option<usize>,
     p: Progress,
 ) -> Progress
     requires { Settled g chips.old records.old × SlotsFit g slots.old × (length work.old ≡ g.w) × (j < g.s) × (m < g.n) × (length bytes.now ≡ g.w) × Sane p
@@ -136,8 +134,8 @@ fn place_member(
         return run;
     }
     match place_on(chips, g, c) {
-        Found::At(q) => write_at(chips, records, slots, work, g, j, m, bytes, q, free, run),
-        Found::Nothing => run,
+        Some(q) => write_at(chips, records, slots, work, g, j, m, bytes, q, free, run),
+        None => run,
     }
 }
 

@@ -1,12 +1,10 @@
 -- A row after another.
-use lib.Dec.{eqb}
-use Rattle.rules.specs.declared.Refusal.TheVariants.{Request, ChipSet}
-use Rattle.rules.specs.declared.Check.TheVariants.{Passed}
-use Rattle.rules.specs.Refusals.{unless}
-use Rattle.looks.proofs.Passing.{one_more}
+use mathlib.Core.Path.{refl, sym, ◌∙◌}
+use Rattle.looks.proofs.Passing.{turned_back, row_refused, row_passed}
 use Rattle.calls.proofs.free_check.Goals as goal
 
+pub returns-in_err-require : goal.returns-in_err-require
+returns-in_err-require c = turned_back _ c.from_residual.ensures.1 ∙ sym (row_refused _ _ c.require.ensures refl c.in_err-require.was)
+
 pub returns : goal.returns
-returns c =
-    let a = c.args in
-    rw (c.also-2.ensures, c.also.ensures) (one_more a.first a.fits Request (unless (eqb a.lost 255) ChipSet Passed))
+returns c = c.require-2.ensures ∙ sym (row_passed _ _ c.require.ensures refl c.in_ok-require.was)

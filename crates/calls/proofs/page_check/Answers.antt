@@ -1,14 +1,10 @@
 -- A row after another.
-use Prim.Native.Nat.{◌*◌}
-use lib.Dec.{ltb, eqb}
-use Rattle.rules.specs.declared.Refusal.TheVariants.{Request, Data}
-use Rattle.rules.specs.declared.Check.TheVariants.{Passed}
-use Rattle.rules.specs.Refusals.{unless}
-use Rattle.looks.proofs.Passing.{one_more}
+use mathlib.Core.Path.{sym, ◌∙◌}
+use Rattle.looks.proofs.Passing.{turned_back, row_refused, row_passed}
 use Rattle.calls.proofs.page_check.Goals as goal
 
+pub returns-in_err-require : goal.returns-in_err-require
+returns-in_err-require c = turned_back _ c.from_residual.ensures.1 ∙ sym (row_refused _ _ c.require.ensures c.page_fits.ensures c.in_err-require.was)
+
 pub returns : goal.returns
-returns c =
-    let a = c.args in
-    rw (c.also.ensures, c.also-fits.ensures, c.page_fits.ensures)
-    (one_more a.first (ltb a.page (a.g.n * a.g.s)) Request (unless (eqb a.len a.g.w) Data Passed))
+returns c = c.require-2.ensures ∙ sym (row_passed _ _ c.require.ensures c.page_fits.ensures c.in_ok-require.was)

@@ -1,64 +1,41 @@
 -- Refused by its rows, or what `read_member` brings.
-use mathlib.Core.Path.{◌≡◌, sym, ◌∙◌}
-use native.Mathlib.Omega.{arith}
-use Rattle.layout.specs.Layout.{layout_of}
-use Rattle.rules.specs.declared.Check.TheVariants.{Passed}
-use Rattle.rules.specs.Refusals.{checked, read_rows}
+use mathlib.Core.Path.{◌∙◌}
 use Rattle.steps.specs.Allowance.{images}
-use Rattle.calls.proofs.Results.{ReadReady, read_told, read_ready, read_refused, read_done}
+use Rattle.looks.proofs.Passing.{turned_back, look_refused, look_passed}
+use Rattle.calls.proofs.Results.{read_first, read_told, read_ready, read_refused, read_done}
 use Rattle.calls.proofs.read.Goals as goal
 
-pub returns-in-Failed : goal.returns-in-Failed
-returns-in-Failed c =
-    let told : let a = c.args in
-    c.page_check-check.result ≡ checked (read_rows (layout_of a.g) (images a.chips.now a.records.now a.slots.now) a.lost a.page a.buffer.now) =
-    read_told _ _ _ _ _ c.images_look-look.ensures c.page_check-check.ensures in
-    read_refused _ _ _ _ _ c.in-Failed.r (sym told ∙ c.in-Failed.is)
+pub returns-in_err-images_look : goal.returns-in_err-images_look
+returns-in_err-images_look c =
+    let s = images c.args.chips.now c.args.records.now c.args.slots.now in
+    rw (turned_back _ c.from_residual.ensures.1) (read_refused _ s _ _ _ (read_first _ s _ _ _ (look_refused _ s _ c.images_look.ensures c.in_err-images_look.was)))
 
-pub nonzero_div-j : goal.nonzero_div-j
-nonzero_div-j c =
-    let told : let a = c.args in
-    c.page_check-check.result ≡ checked (read_rows (layout_of a.g) (images a.chips.now a.records.now a.slots.now) a.lost a.page a.buffer.now) =
-    read_told _ _ _ _ _ c.images_look-look.ensures c.page_check-check.ensures in
-    let passed : let a = c.args in
-    checked (read_rows (layout_of a.g) (images a.chips.now a.records.now a.slots.now) a.lost a.page a.buffer.now) ≡ Passed =
-    sym told ∙ c.in_default.is in
-    let ready : let a = c.args in ReadReady a.g (images a.chips.now a.records.now a.slots.now) a.page a.buffer.now =
-    let a = c.args in read_ready a.g _ a.lost _ _ passed in
-    omega (arith, ready.ready.fit.within_limits.members_low)
+pub returns-in_err-page_check : goal.returns-in_err-page_check
+returns-in_err-page_check c =
+    let s = images c.args.chips.now c.args.records.now c.args.slots.now in
+    let above = look_passed _ s _ c.images_look.ensures c.in_ok-images_look.was in
+    rw (turned_back _ c.from_residual-in_err-page_check.ensures.1)
+    (read_refused _ s _ _ _ (read_told _ s _ _ _ above c.page_check.ensures ∙ c.in_err-page_check.was))
 
-pub nonzero_rem-m : goal.nonzero_rem-m
-nonzero_rem-m c =
-    let told : let a = c.args in
-    c.page_check-check.result ≡ checked (read_rows (layout_of a.g) (images a.chips.now a.records.now a.slots.now) a.lost a.page a.buffer.now) =
-    read_told _ _ _ _ _ c.images_look-look.ensures c.page_check-check.ensures in
-    let passed : let a = c.args in
-    checked (read_rows (layout_of a.g) (images a.chips.now a.records.now a.slots.now) a.lost a.page a.buffer.now) ≡ Passed =
-    sym told ∙ c.in_default.is in
-    let ready : let a = c.args in ReadReady a.g (images a.chips.now a.records.now a.slots.now) a.page a.buffer.now =
-    let a = c.args in read_ready a.g _ a.lost _ _ passed in
-    omega (arith, ready.ready.fit.within_limits.members_low)
+pub invariant_of-view : goal.invariant_of-view
+invariant_of-view c =
+    let s = images c.args.chips.now c.args.records.now c.args.slots.now in
+    let above = look_passed _ s _ c.images_look.ensures c.in_ok-images_look.was in
+    let h = read_ready _ s _ _ _ (read_told _ s _ _ _ above c.page_check.ensures ∙ c.in_ok-page_check.was) in
+    let fit = h.ready.fit.fit in
+    record { chips_fit = fit.chips; records_fit = fit.records; slots_fit = fit.slots }
 
 pub read_member-got-requires : goal.read_member-got-requires
 read_member-got-requires c =
-    let told : let a = c.args in
-    c.page_check-check.result ≡ checked (read_rows (layout_of a.g) (images a.chips.now a.records.now a.slots.now) a.lost a.page a.buffer.now) =
-    read_told _ _ _ _ _ c.images_look-look.ensures c.page_check-check.ensures in
-    let passed : let a = c.args in
-    checked (read_rows (layout_of a.g) (images a.chips.now a.records.now a.slots.now) a.lost a.page a.buffer.now) ≡ Passed =
-    sym told ∙ c.in_default.is in
-    let ready : let a = c.args in ReadReady a.g (images a.chips.now a.records.now a.slots.now) a.page a.buffer.now =
-    let a = c.args in read_ready a.g _ a.lost _ _ passed in
-    let h = ready in
+    let s = images c.args.chips.now c.args.records.now c.args.slots.now in
+    let above = look_passed _ s _ c.images_look.ensures c.in_ok-images_look.was in
+    let h = read_ready _ s _ _ _ (read_told _ s _ _ _ above c.page_check.ensures ∙ c.in_ok-page_check.was) in
     let p = h.ready in
-    (p.fit.fit.chips, p.fit.fit.records, p.fit.fit.slots, h.whole, p.stripe, p.member, p.fit.stripe _ p.stripe)
+    (h.whole, p.stripe, p.member, p.fit.stripe _ p.stripe)
 
 pub returns : goal.returns
 returns c =
-    let told : let a = c.args in
-    c.page_check-check.result ≡ checked (read_rows (layout_of a.g) (images a.chips.now a.records.now a.slots.now) a.lost a.page a.buffer.now) =
-    read_told _ _ _ _ _ c.images_look-look.ensures c.page_check-check.ensures in
-    let passed : let a = c.args in
-    checked (read_rows (layout_of a.g) (images a.chips.now a.records.now a.slots.now) a.lost a.page a.buffer.now) ≡ Passed =
-    sym told ∙ c.in_default.is in
-    read_done _ _ _ _ _ passed c.read_member-got.ensures
+    let s = images c.args.chips.now c.args.records.now c.args.slots.now in
+    let above = look_passed _ s _ c.images_look.ensures c.in_ok-images_look.was in
+    rw c.of_reads-counts.ensures
+    (read_done _ s _ _ _ (read_told _ s _ _ _ above c.page_check.ensures ∙ c.in_ok-page_check.was) c.read_member-got.ensures)

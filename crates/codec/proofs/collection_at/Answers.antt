@@ -3,40 +3,7 @@ use native.Mathlib.Nat.{add-zero}
 use native.Mathlib.Omega.{arith}
 use Rattle.octets.proofs.Units.{get_or_unit, part_unit}
 use Rattle.layout.specs.Collection.{collection_of, collection_at}
-use Rattle.layout.specs.Images.{records_length}
 use Rattle.codec.proofs.collection_at.Goals as goal
-
-pub overflow_mul-a : goal.overflow_mul-a
-unfolding records_length
-overflow_mul-a c = omega arith
-
-pub byte-requires : goal.byte-requires
-unfolding records_length
-byte-requires c = omega arith
-
-pub overflow_add-a : goal.overflow_add-a
-unfolding records_length
-overflow_add-a c = omega arith
-
-pub byte-requires-2 : goal.byte-requires-2
-unfolding records_length
-byte-requires-2 c = omega arith
-
-pub overflow_add-a-2 : goal.overflow_add-a-2
-unfolding records_length
-overflow_add-a-2 c = omega arith
-
-pub number_at-requires : goal.number_at-requires
-unfolding records_length
-number_at-requires c = omega arith
-
-pub overflow_add-a-3 : goal.overflow_add-a-3
-unfolding records_length
-overflow_add-a-3 c = omega arith
-
-pub number_at-requires-2 : goal.number_at-requires-2
-unfolding records_length
-number_at-requires-2 c = omega arith
 
 pub returns : goal.returns
 unfolding collection_at collection_of

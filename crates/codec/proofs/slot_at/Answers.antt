@@ -1,23 +1,9 @@
 -- Record j is 32 bytes at j * 32.
-use native.Mathlib.Omega.{arith}
 use mathlib.Core.Path.{ap, ◌∙◌}
 use Rattle.layout.specs.Record.{Record}
-use Rattle.layout.specs.Images.{records_length}
 use Rattle.codec.specs.Views.{record_from, ended}
 use Rattle.codec.proofs.Encodings.{record_in_lem}
 use Rattle.codec.proofs.slot_at.Goals as goal
-
-pub overflow_mul-j : goal.overflow_mul-j
-unfolding records_length
-overflow_mul-j c = omega arith
-
-pub overflow_add-j : goal.overflow_add-j
-unfolding records_length
-overflow_add-j c = omega arith
-
-pub byte-requires : goal.byte-requires
-unfolding records_length
-byte-requires c = omega arith
 
 pub returns : goal.returns
 unfolding record_from ended

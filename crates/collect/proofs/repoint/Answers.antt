@@ -1,6 +1,5 @@
 -- On the parity's chip the parity number is moved; else the numbers of the member on the chip. The arrays have six numbers each, as the
 -- value's type says.
-use native.Mathlib.Omega.{arith}
 use mathlib.Core.Path.{◌≡◌, sym, ◌∙◌}
 use lib.ListN.{length}
 use Rattle.layout.specs.Layout.{layout_of}
@@ -15,30 +14,6 @@ returns-then-c-parity c =
 
 pub member_on-m-requires : goal.member_on-m-requires
 member_on-m-requires c = (c.requires.0, c.requires.1, c.parity_chip-parity.ensures.1, c.if-c-parity.false)
-
-pub offset_bounds-e-m : goal.offset_bounds-e-m
-offset_bounds-e-m c = omega (arith, c.member_on-m.ensures.2)
-
-pub bounds-e-m : goal.bounds-e-m
-bounds-e-m c = c.member_on-m.ensures.2
-
-pub offset_bounds-next-m : goal.offset_bounds-next-m
-offset_bounds-next-m c = omega (arith, c.member_on-m.ensures.2)
-
-pub bounds-next-m : goal.bounds-next-m
-bounds-next-m c = c.member_on-m.ensures.2
-
-pub offset_bounds-e-m-2 : goal.offset_bounds-e-m-2
-offset_bounds-e-m-2 c = omega (arith, c.member_on-m.ensures.2)
-
-pub bounds-e-m-2 : goal.bounds-e-m-2
-bounds-e-m-2 c = c.member_on-m.ensures.2
-
-pub offset_bounds-next-m-2 : goal.offset_bounds-next-m-2
-offset_bounds-next-m-2 c = omega (arith, c.member_on-m.ensures.2)
-
-pub bounds-next-m-2 : goal.bounds-next-m-2
-bounds-next-m-2 c = c.member_on-m.ensures.2
 
 pub returns : goal.returns
 returns c =

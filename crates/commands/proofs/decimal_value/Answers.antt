@@ -6,7 +6,7 @@ use Rattle.commands.proofs.decimal_value.Goals as goal
 
 pub loop-i-init : goal.loop-i-init
 unfolding decimal_value
-loop-i-init c = (omega arith, refl)
+loop-i-init c = refl
 
 pub overflow_mul-n : goal.overflow_mul-n
 overflow_mul-n c = omega (arith, value_small c.args.s.now c.loop-i.i (omega arith))
@@ -20,10 +20,7 @@ overflow_add-n c =
 pub loop-i-preserved : goal.loop-i-preserved
 loop-i-preserved c =
     let l = c.loop-i in
-    let s = c.args.s.now in
-    let digit = c.digit_value.ensures in
-    let byte = c.byte_at.ensures in
-    (omega arith, rw (l.invariant.1, c.wide.ensures, digit, byte) (sym (value_next s l.i)))
+    rw (l.invariant, c.from.ensures, c.digit_value.ensures, c.byte_at.ensures) (sym (value_next c.args.s.now l.i))
 
 pub returns : goal.returns
 returns c = let e : c.loop-i.i ≡ c.args.k = omega arith in cc

@@ -1,11 +1,7 @@
 -- After i turns n is the number that the first i digits spell; five digits fit.
-use Prim.Native.Nat.{◌-◌, ◌≤◌}
 use mathlib.Core.Path.{◌≡◌}
 use Rattle.commands.specs.Parsing.{decimal_value}
 use Rattle.commands.proofs.decimal_value.Given as goal
 
 abbrev pub invariant-loop-i : goal.invariant-loop-i
-invariant-loop-i l = (l.i ≤ l.k) × (l.n ≡ decimal_value l.s l.i)
-
-abbrev pub decreases-loop-i : goal.decreases-loop-i
-decreases-loop-i l = l.k - l.i
+invariant-loop-i l = l.n ≡ decimal_value l.s l.i

@@ -1,12 +1,9 @@
 -- The digits passed and those from offset i on are all.
-use Prim.Native.Nat.{◌+◌, ◌-◌, ◌≤◌}
+use Prim.Native.Nat.{◌+◌}
 use mathlib.Core.Path.{◌≡◌}
-use lib.ListN.{length, drop}
+use lib.ListN.{drop}
 use Rattle.commands.specs.Parsing.{digit_count}
 use Rattle.commands.proofs.digit_count.Given as goal
 
 abbrev pub invariant-loop-i : goal.invariant-loop-i
-invariant-loop-i l = (l.i ≤ length l.s) × (digit_count l.s ≡ l.i + digit_count (drop l.i l.s))
-
-abbrev pub decreases-loop-i : goal.decreases-loop-i
-decreases-loop-i l = length l.s - l.i
+invariant-loop-i l = digit_count l.s ≡ l.i + digit_count (drop l.i l.s)

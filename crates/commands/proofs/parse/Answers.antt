@@ -15,7 +15,7 @@ whole : (xs : List ℕ) → take (length xs - 2) (drop 2 xs) ≡ drop 2 xs
 whole xs = take_all (length xs - 2) (drop 2 xs) (omega (arith, length-drop 2 xs))
 
 pub returns-then-line-lt2 : goal.returns-then-line-lt2
-returns-then-line-lt2 c = c.no_command.ensures ∙ sym (short_line c.args.line.now c.if-line-lt2.true)
+returns-then-line-lt2 c = sym (short_line c.args.line.now c.if-line-lt2.true)
 
 pub returns-then-not-is_numbered : goal.returns-then-not-is_numbered
 returns-then-not-is_numbered c =
@@ -23,7 +23,7 @@ returns-then-not-is_numbered c =
     let k : ℕ = c.digit_count-digits.result in
     let counted : k ≡ digit_count (drop 2 line) = rw (whole line) at c.digit_count-digits.ensures in
     let f = sym c.is_numbered.ensures ∙ c.if-not-is_numbered.true in
-    c.no_command-then-not-is_numbered.ensures ∙ sym (unnumbered line k counted f)
+    sym (unnumbered line k counted f)
 
 pub decimal_value-number-requires : goal.decimal_value-number-requires
 decimal_value-number-requires c =
@@ -47,7 +47,7 @@ returns-then-is_alone c =
     let is_numbered : numbered line k ≡ true = sym c.is_numbered.ensures ∙ c.if-not-is_numbered.false in
     let u = sym c.is_alone.ensures ∙ c.if-is_alone.true in
     let e = number_alone line k counted is_numbered u in
-    rw (c.byte_at-letter.ensures, c.decimal_value-number.ensures, whole line, e)
+    rw (c.act_alone-act.ensures, c.byte_at.ensures, c.decimal_value-number.ensures, whole line, e)
 
 pub is_filled-requires : goal.is_filled-requires
 is_filled-requires c =
@@ -77,7 +77,7 @@ byte_value-byte-requires c =
     let line : List ℕ = c.args.line.now in
     let k : ℕ = c.digit_count-digits.result in
     let f = filled_is line k (sym c.is_filled.ensures ∙ c.if-is_filled.true) in
-    rw (c.byte_at.ensures, c.byte_at-then-is_filled.ensures) (f.high, f.low)
+    rw (c.byte_at-then-is_filled.ensures, c.byte_at-then-is_filled-2.ensures) (f.high, f.low)
 
 pub returns-then-is_filled : goal.returns-then-is_filled
 returns-then-is_filled c =
@@ -88,11 +88,10 @@ returns-then-is_filled c =
     let f = sym c.is_alone.ensures ∙ c.if-is_alone.false in
     let u = sym c.is_filled.ensures ∙ c.if-is_filled.true in
     let e = number_and_byte line k counted is_numbered f u in
-    let letter = c.byte_at-letter.ensures in
     let number = c.decimal_value-number.ensures in
-    let high = c.byte_at.ensures in
-    let low = c.byte_at-then-is_filled.ensures in
-    rw (letter, number, whole line, c.byte_value-byte.ensures, high, low, e)
+    let high = c.byte_at-then-is_filled.ensures in
+    let low = c.byte_at-then-is_filled-2.ensures in
+    rw (number, whole line, c.byte_value-byte.ensures, high, low, e)
 
 pub returns : goal.returns
 returns c =
@@ -102,5 +101,4 @@ returns c =
     let is_numbered : numbered line k ≡ true = sym c.is_numbered.ensures ∙ c.if-not-is_numbered.false in
     let f = sym c.is_alone.ensures ∙ c.if-is_alone.false in
     let g = sym c.is_filled.ensures ∙ c.if-is_filled.false in
-    c.no_command-2.ensures
-    ∙ sym (neither_follows line k counted is_numbered f g)
+    sym (neither_follows line k counted is_numbered f g)

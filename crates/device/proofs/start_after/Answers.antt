@@ -21,5 +21,5 @@ sane reads n few h =
 
 pub returns : goal.returns
 returns c =
-    let x = c.lesser-left in
-    (ap (started (reading c.args.reads)) x.ensures, sane c.args.reads x.result c.requires (rw x.ensures (min-le_right c.args.allowance (2 ^ 59))))
+    let x = c.min-left in
+    rw c.of_reads.ensures (ap (started (reading c.args.reads)) x.ensures, sane c.args.reads x.result c.requires (rw x.ensures (min-le_right c.args.allowance (2 ^ 59))))

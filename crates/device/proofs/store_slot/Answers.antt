@@ -1,14 +1,12 @@
 -- The slot is stored, and the store counted, where the allowance holds it.
-use native.Mathlib.Omega.{arith}
+use Rattle.std.proofs.Common.{rules}
 use Rattle.steps.specs.Store.{apply}
-use Rattle.steps.proofs.Allowances.{ran_stop, ran_one}
+use Rattle.device.proofs.Stores.{ran_store}
 use Rattle.device.proofs.store_slot.Goals as goal
-
-pub returns-then-p-eq0 : goal.returns-then-p-eq0
-returns-then-p-eq0 c x y = rw c.stop.ensures (ran_stop _ _ _ _ c.requires.4 c.if-p-eq0.true)
 
 pub returns : goal.returns
 unfolding apply
 returns c x y =
-    let h = c.requires in
-    rw c.count.ensures (ran_one _ _ _ _ _ h.4 (omega arith) h.3 (rw c.put_slot.ensures))
+    ran_store _ _ _ _ _ _ c.requires.4 c.requires.3
+    (λ e. search (rules, c.store.ensures.stopped e))
+    (λ e. search (rules, c.store.ensures.made e))

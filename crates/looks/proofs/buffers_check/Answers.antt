@@ -1,19 +1,13 @@
--- Each return is the check once the tests before it are settled.
+-- A row after another.
+use mathlib.Core.Path.{sym, ◌∙◌}
 use Rattle.rules.specs.Refusals.{buffers_rows}
-use Rattle.looks.proofs.Passing.{passed, failed}
+use Rattle.looks.proofs.Passing.{turned_back, row_refused, row_passed}
 use Rattle.looks.proofs.buffers_check.Goals as goal
 
-pub returns-then-not-geometry_passes : goal.returns-then-not-geometry_passes
+pub returns-in_err-require : goal.returns-in_err-require
 unfolding buffers_rows
-returns-then-not-geometry_passes c = rw (failed c.geometry_passes.ensures c.if-not-geometry_passes.true-raw)
-
-pub lengths_pass-requires : goal.lengths_pass-requires
-lengths_pass-requires c = passed c.geometry_passes.ensures c.if-not-geometry_passes.false-raw
-
-pub returns-then-not-lengths_pass : goal.returns-then-not-lengths_pass
-unfolding buffers_rows
-returns-then-not-lengths_pass c = rw (passed c.geometry_passes.ensures c.if-not-geometry_passes.false-raw, failed c.lengths_pass.ensures c.if-not-lengths_pass.true-raw)
+returns-in_err-require c = turned_back _ c.from_residual.ensures.1 ∙ sym (row_refused _ _ c.require.ensures c.geometry_passes.ensures c.in_err-require.was)
 
 pub returns : goal.returns
 unfolding buffers_rows
-returns c = rw (passed c.geometry_passes.ensures c.if-not-geometry_passes.false-raw, passed c.lengths_pass.ensures c.if-not-lengths_pass.false-raw)
+returns c = rw (c.require-2.ensures, c.lengths_pass.ensures) (sym (row_passed _ _ c.require.ensures c.geometry_passes.ensures c.in_ok-require.was))

@@ -1,26 +1,31 @@
 -- Rows 1 to 5, and then the phase.
-use mathlib.Core.Path.{sym, ◌∙◌}
-use mathlib.Core.Bool.{true, false}
-use borrow.Author.Tests.{eq-eqb, ne_eqb}
+use mathlib.Core.Path.{sym, ap, ◌∙◌}
+use lib.Dec.{eqb}
+use Prim.Native.Nat.{ℕ}
 use Rattle.steps.specs.Allowance.{images}
-use Rattle.looks.proofs.Passing.{look_check, look_refused, look_kept, images_fit, settled_first, settled_next}
+use Rattle.looks.proofs.Passing.{turned_back, row_refused, row_passed, look_refused, look_passed, refusal_told, images_fit, settled_first, settled_next}
 use Rattle.looks.proofs.settled_look.Goals as goal
 
-pub returns-in-Failed : goal.returns-in-Failed
-returns-in-Failed c = look_refused _ (images c.args.chips.now c.args.records.now c.args.slots.now) _ c.refused.ensures (settled_first _ (images c.args.chips.now c.args.records.now c.args.slots.now) _ c.in-Failed.r (sym (look_check _ (images c.args.chips.now c.args.records.now c.args.slots.now) _ _ c.images_look-look.ensures) ∙ c.in-Failed.is))
+pub returns-in_err-look : goal.returns-in_err-look
+returns-in_err-look c =
+    let s = images c.args.chips.now c.args.records.now c.args.slots.now in
+    refusal_told _ s _ (turned_back _ c.from_residual.ensures.1) (settled_first _ s _ (look_refused _ s _ c.images_look.ensures c.in_err-look.was))
 
 pub collection_at-co-requires : goal.collection_at-co-requires
-collection_at-co-requires c = (images_fit _ (images c.args.chips.now c.args.records.now c.args.slots.now) _ (sym (look_check _ (images c.args.chips.now c.args.records.now c.args.slots.now) _ _ c.images_look-look.ensures) ∙ c.in_default.is)).fit.records
+collection_at-co-requires c =
+    let s = images c.args.chips.now c.args.records.now c.args.slots.now in
+    (images_fit _ s _ (look_passed _ s _ c.images_look.ensures c.in_ok-look.was)).fit.records
 
-pub returns-then-co-ne0 : goal.returns-then-co-ne0
-returns-then-co-ne0 c =
-    look_refused _ (images c.args.chips.now c.args.records.now c.args.slots.now) _ c.refused-then-co-ne0.ensures
-    (settled_next _ (images c.args.chips.now c.args.records.now c.args.slots.now) _ false (sym (look_check _ (images c.args.chips.now c.args.records.now c.args.slots.now) _ _ c.images_look-look.ensures) ∙ c.in_default.is) (ne_eqb _ 0 (λ e. c.if-co-ne0.true (c.collection_at-co.ensures.phase ∙ e))))
+pub returns-in_err-require : goal.returns-in_err-require
+returns-in_err-require c =
+    let s = images c.args.chips.now c.args.records.now c.args.slots.now in
+    refusal_told _ s _ (turned_back _ c.from_residual-in_err-require.ensures.1)
+    (settled_next _ s _ (look_passed _ s _ c.images_look.ensures c.in_ok-look.was)
+    ∙ row_refused _ _ c.require.ensures (ap (λ (n : ℕ). eqb n 0) c.collection_at-co.ensures.phase) c.in_err-require.was)
 
 pub returns : goal.returns
 returns c =
-    let seen = c.images_look-look.ensures in
-    let above = sym (look_check _ (images c.args.chips.now c.args.records.now c.args.slots.now) _ _ seen) ∙ c.in_default.is in
-    look_kept _ (images c.args.chips.now c.args.records.now c.args.slots.now) _ above
-    (settled_next _ (images c.args.chips.now c.args.records.now c.args.slots.now) _ true above (eq-eqb _ 0 (sym c.collection_at-co.ensures.phase ∙ c.if-co-ne0.false)))
-    seen
+    let s = images c.args.chips.now c.args.records.now c.args.slots.now in
+    let above = look_passed _ s _ c.images_look.ensures c.in_ok-look.was in
+    let row = row_passed _ _ c.require.ensures (ap (λ (n : ℕ). eqb n 0) c.collection_at-co.ensures.phase) c.in_ok-require.was in
+    rw (settled_next _ s _ above ∙ row) (sym c.in_ok-look.was ∙ c.images_look.ensures ∙ rw above)

@@ -12,9 +12,6 @@ returns-then-c-parity c =
     let chip = c.if-c-parity.true ∙ c.parity_chip-parity.ensures.0 in
     rw c.number_in.ensures.0 (parity_pages (layout_of c.args.g) c.args.j _ c.args.c chip)
 
-pub member_on-m-requires : goal.member_on-m-requires
-member_on-m-requires c = let h = c.requires in (h.0.limited, h.1, c.parity_chip-parity.ensures.1, c.if-c-parity.false)
-
 pub returns : goal.returns
 returns c =
     let elsewhere : let a = c.args in a.c ≢ parity_chip (layout_of a.g) a.j = λ q.

@@ -5,13 +5,12 @@ use Rattle.octets.specs.Number.{number}
 use Rattle.octets.proofs.Lists.{zero_more}
 use Rattle.octets.proofs.zeros.Goals as goal
 
-pub loop-i-init : goal.loop-i-init
+pub loop-b-init : goal.loop-b-init
 unfolding number
-loop-i-init c = (omega arith, refl)
+loop-b-init c = refl
 
-pub loop-i-preserved : goal.loop-i-preserved
-loop-i-preserved c = let l = c.loop-i in
-    (omega arith, zero_more c.args.s.now l.i l.acc l.invariant.1)
+pub loop-b-preserved : goal.loop-b-preserved
+loop-b-preserved c = let l = c.loop-b in zero_more c.args.s.now l.b-index l.acc l.invariant
 
 pub returns : goal.returns
-returns c = rw (c.loop-i.invariant.1, take_all c.loop-i.i c.args.s.now (omega arith))
+returns c = rw (c.loop-b.invariant, take_all c.loop-b.b-index c.args.s.now (omega arith))

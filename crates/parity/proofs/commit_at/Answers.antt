@@ -14,7 +14,7 @@ use Rattle.parity.proofs.commit_at.Goals as goal
 pub new_parity-reads-requires : goal.new_parity-reads-requires
 new_parity-reads-requires c =
     let is = record_is c.args.g c.args.records.now c.args.j c.record_at-e.ensures c.requires.7 in
-    (c.requires.0, c.requires.1, c.requires.2, c.requires.3, c.requires.4, is, rw is c.requires.7, rw is c.requires.8)
+    (c.requires.3, c.requires.4, is, rw is c.requires.7, rw is c.requires.8)
 
 pub program-run-requires : goal.program-run-requires
 program-run-requires c =

@@ -4,13 +4,13 @@ use Rattle.records.proofs.Totals.{names_none, names_member, names_most, names_al
 use Rattle.records.proofs.names_of.Goals as goal
 
 pub loop-m-init : goal.loop-m-init
-loop-m-init c = (omega arith, names_none c.args.e)
+loop-m-init c = names_none c.args.e
 
 pub overflow_add-names-in-loop-m : goal.overflow_add-names-in-loop-m
 overflow_add-names-in-loop-m c = omega (arith, names_most c.args.e c.loop-m.m)
 
 pub loop-m-preserved : goal.loop-m-preserved
-loop-m-preserved c = (omega arith, omega (arith, names_member c.args.e c.loop-m.m))
+loop-m-preserved c = omega (arith, names_member c.args.e c.loop-m.m)
 
 pub overflow_add-result : goal.overflow_add-result
 overflow_add-result c = omega (arith, names_most c.args.e c.loop-m.m)

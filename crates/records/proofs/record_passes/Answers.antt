@@ -16,11 +16,11 @@ overflow_mul-pages c = omega (arith, bounded c.args.g c.requires)
 
 pub loop-m-init : goal.loop-m-init
 unfolding all_below
-loop-m-init c = (omega arith, refl)
+loop-m-init c = refl
 
 pub loop-m-preserved : goal.loop-m-preserved
 unfolding all_below
-loop-m-preserved c = (omega arith, rw (add-one, c.loop-m.invariant.1, c.member_passes-members.ensures))
+loop-m-preserved c = rw (add-one, c.loop-m.invariant, c.member_passes-members.ensures)
 
 pub overflow_shl-result : goal.overflow_shl-result
 overflow_shl-result c = omega (arith, bounded c.args.g c.requires)
@@ -37,4 +37,4 @@ returns c =
     ] in
     let loop = c.loop-m in
     let six : loop.m ≡ 6 = omega arith in
-    rw (slot_is, loop.invariant.1, six, (bounded c.args.g c.requires).bitmaps, and-true)
+    rw (slot_is, loop.invariant, six, (bounded c.args.g c.requires).bitmaps, and-true)

@@ -1,5 +1,4 @@
 -- The loop's invariant: the flag is the test of the members below m. The other tests are the definition's own.
-use Prim.Native.Nat.{◌≤◌, ◌-◌}
 use mathlib.Core.Path.{◌≡◌}
 use Rattle.ranges.specs.Look.{all_below}
 use Rattle.layout.specs.Layout.{layout_of}
@@ -8,7 +7,4 @@ use Rattle.codec.specs.Views.{record_from}
 use Rattle.records.proofs.record_passes.Given as goal
 
 abbrev pub invariant-loop-m : goal.invariant-loop-m
-invariant-loop-m l = (l.m ≤ 6) × (l.members ≡ all_below l.m (member_sound (layout_of l.g) (record_from (layout_of l.g) l.e)))
-
-abbrev pub decreases-loop-m : goal.decreases-loop-m
-decreases-loop-m l = 6 - l.m
+invariant-loop-m l = l.members ≡ all_below l.m (member_sound (layout_of l.g) (record_from (layout_of l.g) l.e))

@@ -1,6 +1,5 @@
 -- The loop's invariant: the tally, the table and the count of page numbers are those of the records below j. A record has at most 13
 -- page numbers, so that no sum overflows.
-use Prim.Native.Nat.{◌-◌, ◌≤◌}
 use mathlib.Core.Path.{◌≡◌}
 use Rattle.layout.specs.Layout.{layout_of}
 use Rattle.layout.specs.Record.{record_at}
@@ -8,7 +7,4 @@ use Rattle.records.proofs.Tables.{Passed, full_names}
 use Rattle.records.proofs.scan_records.Given as goal
 
 abbrev pub invariant-loop-j : goal.invariant-loop-j
-invariant-loop-j l = (l.j ≤ l.g.s) × Passed l.g (record_at (layout_of l.g) l.records) l.lost l.j l.seen l.tally l.names × (l.full ≡ full_names l.g.n l.lost)
-
-abbrev pub decreases-loop-j : goal.decreases-loop-j
-decreases-loop-j l = l.g.s - l.j
+invariant-loop-j l = Passed l.g (record_at (layout_of l.g) l.records) l.lost l.j l.seen l.tally l.names × (l.full ≡ full_names l.g.n l.lost)

@@ -6,7 +6,7 @@ use native.Mathlib.Omega.{arith}
 use mathlib.Core.Path.{◌≡◌, refl, sym, ap, ◌∙◌}
 use mathlib.Core.List.{List}
 use lib.ListN.{length, length-replicate}
-use Rattle.ranges.specs.declared.Found.TheVariants.{At}
+use Rattle.std.specs.Prelude.{Some}
 use Rattle.ranges.specs.Look.{when_found}
 use Rattle.ranges.specs.Update.{at}
 use Rattle.ranges.proofs.Looks.{by_same, by_found, all_cong, first_at, first_cong, last_at, last_cong}
@@ -41,7 +41,7 @@ module _ (l : Layout) where
   SamePages f g = (i : ℕ) → i < N * S → f i ≡ g i
 
   -- the end of a log is a place of a page, and so is every place before it
-  pub end_fits : (f : ℕ → List ℕ) (t : ℕ) → log_end l f ≡ At t → t < places l
+  pub end_fits : (f : ℕ → List ℕ) (t : ℕ) → log_end l f ≡ Some t → t < places l
   unfolding log_end
   end_fits f t e = (first_at _ _ t e).0
 
@@ -49,7 +49,7 @@ module _ (l : Layout) where
   unfolding log_length when_found
   length_most f = by_found (log_end l f) (λ t e. rw e (omega (arith, end_fits f t e))) (λ e. rw e (le_refl (places l)))
 
-  latest_fits : (f : ℕ → List ℕ) (lot bag t : ℕ) → latest l f lot bag ≡ At t → t < places l
+  latest_fits : (f : ℕ → List ℕ) (lot bag t : ℕ) → latest l f lot bag ≡ Some t → t < places l
   unfolding latest
   latest_fits f lot bag t e = lt_of_lt_of_le (last_at _ _ t e) (length_most f)
 

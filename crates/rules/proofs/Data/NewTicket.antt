@@ -7,7 +7,7 @@ use mathlib.Core.Logic.{◌≢◌}
 use mathlib.Core.Bool.{true, false, cond}
 use mathlib.Core.List.{List}
 use borrow.Author.Tests.{eqb-true}
-use Rattle.ranges.specs.declared.Found.TheVariants.{At}
+use Rattle.std.specs.Prelude.{Some}
 use Rattle.ranges.specs.Look.{last_below, when_found}
 use Rattle.ranges.specs.Update.{at}
 use Rattle.ranges.proofs.Looks.{by_test, by_order, by_found, at_last, both, all_true, all_at, first_at, first_is, first_none, last_at, last_here, last_skips, last_cong}
@@ -35,11 +35,11 @@ module _ (l : Layout) where
   abbrev pub ClearBehind : ℕ → (ℕ → List ℕ) → Type 0
   ClearBehind t f = t + 1 < places l → is_empty (ticket_at l f (t + 1)) ≡ true
 
-  pub length_before : (f : ℕ → List ℕ) (t : ℕ) → log_end l f ≡ At t → log_length l f ≡ t
+  pub length_before : (f : ℕ → List ℕ) (t : ℕ) → log_end l f ≡ Some t → log_length l f ≡ t
   unfolding log_length when_found
   length_before f t end = rw end
 
-  module _ (ticket : List ℕ) (t : ℕ) (f g : ℕ → List ℕ) (end : log_end l f ≡ At t) (put : bytes_at l g ≡ at t ticket (bytes_at l f))
+  module _ (ticket : List ℕ) (t : ℕ) (f g : ℕ → List ℕ) (end : log_end l f ≡ Some t) (put : bytes_at l g ≡ at t ticket (bytes_at l f))
       (right : ticket_sound (ticket_of ticket) ≡ true) (clear : ClearBehind t f) where
     here : ticket_at l g t ≡ ticket_of ticket
     here = ap (λ (b : ℕ → List ℕ). ticket_of (b t)) put ∙ ap ticket_of (at_same t ticket (bytes_at l f))
@@ -80,7 +80,7 @@ module _ (l : Layout) where
           rw (length_before f t end)
           (last_cong t (λ u. is_for lot bag (ticket_at l g u)) (λ u. is_for lot bag (ticket_at l f u)) (λ u h. ap (is_for lot bag) (elsewhere u (omega arith))))
 
-      latest_low : (u : ℕ) → latest l f lot bag ≡ At u → u < t
+      latest_low : (u : ℕ) → latest l f lot bag ≡ Some u → u < t
       unfolding latest
       latest_low u q = rw (length_before f t end) at (last_at _ _ u q)
 

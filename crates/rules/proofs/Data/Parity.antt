@@ -28,9 +28,7 @@ use Rattle.rules.specs.Partial.{written}
 use Rattle.rules.specs.Costs.{set_bits, most_in_partial}
 use Rattle.rules.specs.Parity.{committed}
 use Rattle.rules.proofs.Soundness.Statements.{Numbered, RecordSound, sound_member}
-use Rattle.rules.proofs.Data.Contents.{current_inside, StripeData, Whole, bytes_none, bytes_page, numbered_none, numbered_cond, length_bytes}
-use Rattle.rules.proofs.Data.Contents.{gathered_cong, gathered_same, gathered_none, gathered_one, gathered_split, length_gathered, gathered_whole, some_bit, bit_slot}
-use Rattle.rules.proofs.Data.Contents.{no_slot_no_bit}
+use Rattle.rules.proofs.Data.Contents.{current_inside, StripeData, Whole, bytes_none, bytes_page, numbered_none, numbered_cond, length_bytes, gathered_cong, gathered_same, gathered_none, gathered_one, gathered_split, length_gathered, gathered_whole, some_bit, bit_slot, no_slot_no_bit}
 use Rattle.rules.proofs.Data.Feeds.{current_outside, old_inside, parity_bytes, partial_bytes}
 
 -- ---- the record of a write

@@ -14,9 +14,8 @@ use Rattle.layout.specs.Images.{Images}
 use Rattle.steps.specs.declared.Counts.{Counts}
 use Rattle.steps.specs.Steps.{Step, no_counts, is_cut, reading}
 use Rattle.steps.proofs.Prefixes.{Every, every_nil, Closes}
-use Rattle.rules.specs.declared.Check.{Check}
-use Rattle.rules.specs.declared.Check.TheVariants.{Passed, Failed}
-use Rattle.rules.specs.Refusals.{checked, images_rows, write_rows, commit_rows, collect_rows, add_rows}
+use Rattle.rules.specs.Refusals.{Check, checked, images_rows, write_rows, commit_rows, collect_rows, add_rows}
+use Rattle.std.specs.Prelude.{Ok, Err}
 use Rattle.rules.specs.Open.{open_steps}
 use Rattle.rules.specs.Collect.{collect_steps}
 use Rattle.rules.specs.Commit.{commit_steps}
@@ -36,28 +35,28 @@ use Rattle.rules.proofs.Demand.Invariant.{Inv, carries_inv, wrote_inv}
 module _ (l : Layout) where
   -- a call whose list carries what the images hold changes nothing that the book knows
   outcome_inv : (check : Check) (n : Counts) (a : ℕ) (steps : Images → List Step) (s : Images) {book : Book} {written : ℕ → Bool} → Inv l s book written
-      → (check ≡ Passed → Every l (Carries l s) (steps s) s) → Inv l (outcome l check n a steps s).images book written
+      → (check ≡ Ok tt → Every l (Carries l s) (steps s) s) → Inv l (outcome l check n a steps s).images book written
   unfolding run
-  outcome_inv Passed n a steps s f h = carries_inv l (h refl a) f
-  outcome_inv (Failed r) n a steps s f h = f
+  outcome_inv (Ok tt) n a steps s f h = carries_inv l (h refl a) f
+  outcome_inv (Err r) n a steps s f h = f
 
   -- a call that rewrites a page changes it where it is done, and nothing where it is cut or refused
   write_inv : (L : Step → Type 0) (check : Check) (n : Counts) (a page : ℕ) (xs : List ℕ) (steps : Images → List Step) (s : Images) {book : Book} {written : ℕ → Bool} → Inv l s book written
-      → (check ≡ Passed → Closes l (Carries l) (Wrote l page xs) L (steps s) s)
+      → (check ≡ Ok tt → Closes l (Carries l) (Wrote l page xs) L (steps s) s)
       → Inv l (outcome l check n a steps s).images (completed page xs (verdict (outcome l check n a steps s).answer) book)
       (completed page true (verdict (outcome l check n a steps s).answer) written)
   unfolding run completed
-  write_inv L Passed n a page xs steps s f h = by_test (is_cut a (steps s))
+  write_inv L (Ok tt) n a page xs steps s f h = by_test (is_cut a (steps s))
       (λ e. rw e (carries_inv l ((h refl).cut a (ltb-true a (length (steps s)) e)) f))
       (λ e. rw (e, take_all a (steps s) (ltb-false a (length (steps s)) e)) (wrote_inv l page xs (h refl).whole f))
-  write_inv L (Failed r) n a page xs steps s f h = f
+  write_inv L (Err r) n a page xs steps s f h = f
 
   -- the log that an addition finds is the book's
   module _ (u : Usable l) (lost : ℕ) (ticket : List ℕ) (s : Images) (book : Book) (written : ℕ → Bool) (f : Inv l s book written) where
-    book_read : checked (add_rows l s lost ticket) ≡ Passed → SamePages l (contents l s lost) book
+    book_read : checked (add_rows l s lost ticket) ≡ Ok tt → SamePages l (contents l s lost) book
     book_read passed = let (none_lost, _) = add_accepted l s lost ticket passed in rw none_lost f.reads
 
-    book_end : checked (add_rows l s lost ticket) ≡ Passed → log_end l (contents l s lost) ≡ log_end l book
+    book_end : checked (add_rows l s lost ticket) ≡ Ok tt → log_end l (contents l s lost) ≡ log_end l book
     book_end passed = end_same l u.within (contents l s lost) book (book_read passed)
 
     add_inv : (a : ℕ) → Inv l (add_call l s lost ticket a).images (booked l (add_call_lem lost ticket a) (verdict (add_call l s lost ticket a).answer) book)

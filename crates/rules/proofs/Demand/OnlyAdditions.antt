@@ -8,7 +8,7 @@ use mathlib.Core.List.{List, [], ◌∷◌, ◌++◌}
 use lib.ListN.{replicate}
 use lib.Dec.{eqb}
 use borrow.Author.Tests.{eqb-true}
-use Rattle.ranges.specs.declared.Found.TheVariants.{At}
+use Rattle.std.specs.Prelude.{Some, Err}
 use Rattle.ranges.specs.Look.{all_below}
 use Rattle.ranges.specs.Update.{at}
 use Rattle.ranges.proofs.Looks.{by_test, first_is}
@@ -18,7 +18,6 @@ use Rattle.layout.specs.Layout.{Layout, no_chip}
 use Rattle.layout.specs.Images.{Images}
 use Rattle.layout.proofs.Limits.{Within}
 use Rattle.rules.specs.declared.Refusal.TheVariants.{Tickets, FullLog}
-use Rattle.rules.specs.declared.Check.TheVariants.{Failed}
 use Rattle.rules.specs.Tickets.{ticket_bytes, ticket_of, is_empty, ticket_sound}
 use Rattle.rules.specs.Log.{per_page, places, bytes_at, ticket_at, log_end, log_length, log_sound, log_open, contents}
 use Rattle.rules.specs.Refusals.{Row, refusal_number, checked, buffers_rows, images_rows, settled_rows, add_rows}
@@ -67,7 +66,7 @@ module _ (l : Layout) where
     some_places : 0 < places l
     some_places = mul-pos (mul-pos (omega (arith, w.members_low)) w.stripes_low) (some_tickets l w)
 
-    finished_end : log_end l (finished l) ≡ At 0
+    finished_end : log_end l (finished l) ≡ Some 0
     unfolding log_end
     finished_end = first_is (places l) (λ t. is_empty (ticket_at l (finished l) t)) 0 some_places (finished_empty 0) (λ t h. absurd (omega arith))
 
@@ -80,7 +79,7 @@ module _ (l : Layout) where
 
   -- ---- one ticket more
 
-  module _ (f : ℕ → List ℕ) (tidy : Tidy f) (t : ℕ) (end : log_end l f ≡ At t) where
+  module _ (f : ℕ → List ℕ) (tidy : Tidy f) (t : ℕ) (end : log_end l f ≡ Some t) where
     pub tidy_behind : ClearBehind l t f
     tidy_behind inside = tidy.clear (t + 1) (omega (arith, length_before l f t end)) inside
 
@@ -97,8 +96,8 @@ module _ (l : Layout) where
   -- ---- an addition to a log that is sound
 
   -- a refusal with 11 is none of the rows above, one of which says that no chip is lost
-  not_above : (s : Images) (lost : ℕ) (first more : List Row) → checked ((settled_rows l s lost ++ first) ++ more) ≡ Failed Tickets
-      → lacks (refusal_number Tickets) first ≡ true → (AllPass first → eqb lost no_chip ≡ true) → (lost ≡ no_chip) × (checked more ≡ Failed Tickets)
+  not_above : (s : Images) (lost : ℕ) (first more : List Row) → checked ((settled_rows l s lost ++ first) ++ more) ≡ Err Tickets
+      → lacks (refusal_number Tickets) first ≡ true → (AllPass first → eqb lost no_chip ≡ true) → (lost ≡ no_chip) × (checked more ≡ Err Tickets)
   unfolding settled_rows images_rows buffers_rows
   not_above s lost first more e other whole =
       let (above, below) = from_below (settled_rows l s lost ++ first) more Tickets other e in
@@ -106,7 +105,7 @@ module _ (l : Layout) where
 
   -- row 11 is of the ticket and of the log: here of the ticket
   pub refused_alone : (s : Images) (lost : ℕ) (ticket : List ℕ) → log_sound l (contents l s no_chip) ≡ true
-      → checked (add_rows l s lost ticket) ≡ Failed Tickets → ticket_sound (ticket_of ticket) ≡ false
+      → checked (add_rows l s lost ticket) ≡ Err Tickets → ticket_sound (ticket_of ticket) ≡ false
   unfolding add_rows
   refused_alone s lost ticket sound e =
       let (none_lost, below) = not_above s lost _ _ e refl (λ h. h.1.0) in

@@ -17,9 +17,8 @@ use Rattle.layout.specs.Page.{Page, page_of, page_at}
 use Rattle.layout.specs.Images.{Images, chips_length}
 use Rattle.steps.specs.Steps.{no_counts}
 use Rattle.steps.proofs.Prefixes.{every_nil}
-use Rattle.rules.specs.declared.Check.{Check}
-use Rattle.rules.specs.declared.Check.TheVariants.{Passed, Failed}
-use Rattle.rules.specs.Refusals.{lost_named, checked, images_rows, write_rows, commit_rows, collect_rows, add_rows}
+use Rattle.rules.specs.Refusals.{Check, lost_named, checked, images_rows, write_rows, commit_rows, collect_rows, add_rows}
+use Rattle.std.specs.Prelude.{Ok, Err}
 use Rattle.rules.specs.Open.{open_steps}
 use Rattle.rules.specs.Calls.{run, outcome, open_call, write_call, commit_call, collect_call, add_call, Call, open_call_lem, write_call_lem, commit_call_lem, collect_call_lem, add_call_lem, query_call, lost_chip, ended}
 use Rattle.rules.specs.Book.{completed, writes, booked, noted}
@@ -94,8 +93,8 @@ module _ (l : Layout) where
     -- a call that names it changes nothing
     open_stays : (t : Images) (a : ℕ) (check : Check) → (outcome l check no_counts a (open_steps l c) t).images ≡ t
     unfolding run
-    open_stays t a Passed = rw (open_lost l t c not_none) (every_nil l (λ v. v ≡ t) t refl a)
-    open_stays t a (Failed r) = refl
+    open_stays t a (Ok tt) = rw (open_lost l t c not_none) (every_nil l (λ v. v ≡ t) t refl a)
+    open_stays t a (Err r) = refl
 
     -- of every kind of call
     pub call_stays : (call : Call) → lost_chip call ≡ c → (x : World) → called l call x ≡ x

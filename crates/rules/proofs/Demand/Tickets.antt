@@ -1,5 +1,7 @@
 -- Document 02, 1, under demand 3: what is found is the book's, an addition that is done puts its ticket at the end of the book's log, and
 -- one that is not leaves the log. Where additions alone write pages, the log is never refused and nothing stands behind its end.
+use Rattle.std.specs.Prelude.{Result, Some, Ok, Err}
+use Rattle.rules.specs.declared.Refusal.{Refusal}
 use Prim.Native.Nat.{ℕ, ◌*◌, ◌≤◌, ◌<◌}
 use native.Mathlib.Nat.{mul-pos}
 use native.Mathlib.Omega.{arith}
@@ -8,7 +10,6 @@ use mathlib.Core.Logic.{◌≢◌}
 use mathlib.Core.Bool.{Bool, true, false}
 use mathlib.Core.List.{List, [], ◌∷◌, ◌++◌}
 use lib.ListN.{length, replicate, length-replicate}
-use Rattle.ranges.specs.declared.Found.TheVariants.{At}
 use Rattle.ranges.specs.Look.{when_found}
 use Rattle.ranges.specs.Update.{at}
 use Rattle.ranges.proofs.Looks.{by_test, both}
@@ -18,17 +19,13 @@ use Rattle.layout.specs.Images.{Images}
 use Rattle.layout.proofs.Limits.{Within}
 use Rattle.steps.specs.declared.Counts.{Counts}
 use Rattle.steps.specs.Steps.{Step, reading}
-use Rattle.rules.specs.declared.Check.{Check}
-use Rattle.rules.specs.declared.Check.TheVariants.{Passed, Failed}
+use Rattle.rules.specs.Refusals.{Check, checked, images_rows, page_rows, log_row, read_rows, find_rows, add_rows}
 use Rattle.rules.specs.declared.Refusal.TheVariants.{Tickets}
 use Rattle.rules.specs.declared.Origin.{Origin}
 use Rattle.rules.specs.declared.Origin.TheVariants.{Unwritten}
 use Rattle.rules.specs.declared.Reading.{Reading}
-use Rattle.rules.specs.declared.Reading.TheVariants.{Done as ReadDone, Refused as ReadRefused}
-use Rattle.rules.specs.declared.Finding.TheVariants.{Done as FindDone}
 use Rattle.rules.specs.Tickets.{ticket_bytes, ticket_of, ticket_sound}
 use Rattle.rules.specs.Log.{falls_in, bytes_at, log_end, log_sound, standing, log_origin, with_ticket, contents, origins, log_reads, add_steps}
-use Rattle.rules.specs.Refusals.{checked, images_rows, page_rows, log_row, read_rows, find_rows, add_rows}
 use Rattle.rules.specs.Calls.{ReadOutcome, read_call, find_call, add_call, Call, open_call_lem, write_call_lem, commit_call_lem, collect_call_lem, add_call_lem, query_call, Verdict, done, cut, refused, outcome, verdict, ended}
 use Rattle.rules.specs.Book.{Book, completed, writes, booked, noted}
 use Rattle.rules.specs.Demand.{World, called, called_all, chip_taken, AllName, origin_owed, TellsTheOrigin, FindsTheBook, Finished, start, AfterBothLists}
@@ -50,7 +47,7 @@ module _ (l : Layout) where
   -- the ticket is where the log ended; every other place, and every page but that one, is as it was
   pub record Added (ticket : List ℕ) (before after : Book) : Type 0 where
     pub place : ℕ
-    pub end : log_end l before ≡ At place
+    pub end : log_end l before ≡ Some place
     pub tickets : bytes_at l after ≡ at place ticket (bytes_at l before)
     pub pages : (i : ℕ) → i ≢ falls_in l place → after i ≡ before i
     -- the log is longer by it and it stands; but where a page was written with something behind the end, that comes to light
@@ -84,7 +81,7 @@ module _ (l : Layout) where
   abbrev pub Answers : ℕ → World → Type 0
   Answers lost x =
       (lot bag : ℕ) → (n : Counts)
-      × (find_call l x.images lost lot bag ≡ FindDone n (standing l x.book lot bag) (log_origin l x.book (origin_owed l lost x) lot bag))
+      × (find_call l x.images lost lot bag ≡ Ok (record { counts = n; standing = standing l x.book lot bag; origin = log_origin l x.book (origin_owed l lost x) lot bag }))
 
   pub record TicketsKept : Type 0 where
     -- a question is answered from the book's log and says how it was got, with no chip dead or any one
@@ -104,20 +101,20 @@ module _ (l : Layout) where
         → (second : List Call) → AllName c second → Answers c (called_all l second (chip_taken l c bytes (reached f first)))
     -- and an addition that is done makes the log longer by its ticket, which stands
     pub grows_always : (f : Finished l) (first : List Call) → OnlyAdds first → (lost : ℕ) (ticket : List ℕ) (a : ℕ) → add_verdict (reached f first) lost ticket a ≡ done
-        → (t : ℕ) × (log_end l (reached f first).book ≡ At t) × Grown l ticket t (reached f first).book (after_add (reached f first) lost ticket a).book
+        → (t : ℕ) × (log_end l (reached f first).book ≡ Some t) × Grown l ticket t (reached f first).book (after_add (reached f first) lost ticket a).book
     -- and one that is refused with 11 is refused for its own ticket
     pub refused_alone : (f : Finished l) (first : List Call) → OnlyAdds first → (lost : ℕ) (ticket : List ℕ)
-        → checked (add_rows l (reached f first).images lost ticket) ≡ Failed Tickets → ticket_sound (ticket_of ticket) ≡ false
+        → checked (add_rows l (reached f first).images lost ticket) ≡ Err Tickets → ticket_sound (ticket_of ticket) ≡ false
 
   -- how a read says that its page was got
-  abbrev origin_in : Reading → Origin
-  origin_in (ReadDone n o) = o
-  origin_in (ReadRefused r) = Unwritten
+  abbrev origin_in : Result Reading Refusal → Origin
+  origin_in (Ok x) = x.origin
+  origin_in (Err r) = Unwritten
 
   -- a read that is done passed rows 1 to 5, gave what the page reads as, and said how it was got
   read_done : (s : Images) (lost i : ℕ) (buffer : List ℕ) (n : Counts) (o : Origin) (ys : List ℕ)
-      → ◌≡◌ {A = ReadOutcome} (read_call l s lost i buffer) (record { answer = ReadDone n o; buffer = ys })
-      → (checked (images_rows l s lost) ≡ Passed) × (contents l s lost i ≡ ys) × (origins l s lost i ≡ o)
+      → ◌≡◌ {A = ReadOutcome} (read_call l s lost i buffer) (record { answer = Ok (record { counts = n; origin = o }); buffer = ys })
+      → (checked (images_rows l s lost) ≡ Ok tt) × (contents l s lost i ≡ ys) × (origins l s lost i ≡ o)
   unfolding read_call read_rows
   read_done s lost i buffer n o ys e = by_check (checked (read_rows l s lost i buffer))
       (λ passed. (
@@ -130,12 +127,12 @@ module _ (l : Layout) where
   -- so where every page reads as the book has it, so does the log
   module _ (w : Within l) (lost : ℕ) (x : World) (reads : TellsTheOrigin l lost x) where
     page_read : (i : ℕ) → i < N * S
-        → (checked (images_rows l x.images lost) ≡ Passed) × (contents l x.images lost i ≡ x.book i) × (origins l x.images lost i ≡ origin_owed l lost x i)
+        → (checked (images_rows l x.images lost) ≡ Ok tt) × (contents l x.images lost i ≡ x.book i) × (origins l x.images lost i ≡ origin_owed l lost x i)
     page_read i h =
         let (n, e) = reads i h (replicate W 0) (length-replicate W 0) in
         read_done x.images lost i (replicate W 0) n (origin_owed l lost x i) (x.book i) e
 
-    rows_read : checked (images_rows l x.images lost) ≡ Passed
+    rows_read : checked (images_rows l x.images lost) ≡ Ok tt
     rows_read = (page_read 0 (mul-pos (omega (arith, w.members_low)) w.stripes_low)).0
 
     same_pages : SamePages l (contents l x.images lost) x.book
@@ -163,12 +160,12 @@ module _ (l : Layout) where
     )
 
   -- an addition answered done passed its rows
-  done_passed : (check : Check) (n : Counts) (a : ℕ) (steps : Images → List Step) (s : Images) → verdict (outcome l check n a steps s).answer ≡ done → check ≡ Passed
-  done_passed Passed n a steps s e = refl
-  done_passed (Failed r) n a steps s e = absurd (omega (arith, ap verdict_number e))
+  done_passed : (check : Check) (n : Counts) (a : ℕ) (steps : Images → List Step) (s : Images) → verdict (outcome l check n a steps s).answer ≡ done → check ≡ Ok tt
+  done_passed (Ok tt) n a steps s e = refl
+  done_passed (Err r) n a steps s e = absurd (omega (arith, ap verdict_number e))
 
   -- the book with a ticket at the end of its log
-  added : Within l → (book : Book) (ticket : List ℕ) (t : ℕ) → log_end l book ≡ At t → length (book (falls_in l t)) ≡ W → length ticket ≡ ticket_bytes
+  added : Within l → (book : Book) (ticket : List ℕ) (t : ℕ) → log_end l book ≡ Some t → length (book (falls_in l t)) ≡ W → length ticket ≡ ticket_bytes
       → ticket_sound (ticket_of ticket) ≡ true → log_sound l book ≡ true → Added ticket book (at (falls_in l t) (with_ticket l book ticket t) book)
   added w book ticket t end page whole right sound =
       let after = at (falls_in l t) (with_ticket l book ticket t) book in

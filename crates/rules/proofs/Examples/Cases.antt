@@ -10,7 +10,7 @@ use Rattle.layout.specs.Rotation.{parity_chip}
 use Rattle.layout.specs.Images.{Images, lengths}
 use Rattle.layout.proofs.Rows.{chip_of, parity_chips, page_chips, most_pages_lem, too_many_pages, most_stripes, too_many_stripes}
 use Rattle.rules.specs.declared.Refusal.TheVariants.{Geometry}
-use Rattle.rules.specs.declared.Check.TheVariants.{Passed}
+use Rattle.std.specs.Prelude.{Ok}
 use Rattle.rules.specs.Costs.{cost_of}
 use Rattle.rules.specs.Refusals.{refusal_number, checked, buffers_rows}
 use Rattle.rules.specs.Calls.{verdict, done, format_call}
@@ -23,7 +23,7 @@ module _ (l : Layout) where
 
   -- rows 1 and 2 pass with images of the right lengths
   abbrev pub Accepted : Type 0
-  Accepted = (s : Images) → lengths l s ≡ true → checked (buffers_rows l s) ≡ Passed
+  Accepted = (s : Images) → lengths l s ≡ true → checked (buffers_rows l s) ≡ Ok tt
 
   -- every call is refusal 1, and changes nothing
   abbrev pub Refusal1 : Type 0

@@ -8,7 +8,7 @@ use lib.ListN.{length, replicate}
 use lib.Arith.{digits_lt}
 use borrow.Author.Tests.{eq-eqb, ne_eqb}
 use Rattle.ranges.specs.Look.{when_found}
-use Rattle.ranges.specs.declared.Found.TheVariants.{At}
+use Rattle.std.specs.Prelude.{Some, Ok}
 use Rattle.ranges.proofs.Looks.{all_true, some_false, first_none, first_is}
 use Rattle.ranges.proofs.Counts.{count_zero, count_all}
 use Rattle.layout.specs.Layout.{Layout, no_chip, none, page_in}
@@ -25,7 +25,6 @@ use Rattle.rules.specs.Blocks.{clean_in, clean_block}
 use Rattle.rules.specs.Place.{open_block, place_of}
 use Rattle.rules.specs.Room.{room_steps, at_place, placed}
 use Rattle.rules.specs.declared.Origin.TheVariants.{Unwritten}
-use Rattle.rules.specs.declared.Reading.TheVariants.{Done as ReadDone}
 use Rattle.rules.specs.Partial.{new_partial, lowest_free_slot, free_slot, data_page, written, slot_steps, write_at}
 use Rattle.rules.specs.Write.{commit_owed, owed_steps, write_member, write_steps}
 use Rattle.rules.specs.Read.{fetch_member, fetch}
@@ -44,10 +43,10 @@ module _ (l : Layout) where
   -- what document 01 says of a first write
   pub record FirstWrite (s : Images) (i : ℕ) (xs : List ℕ) : Type 0 where
     pub three : length (write_steps l i xs s) ≡ 3
-    pub cut_at_two : (write_call l s no_chip i xs 2).answer ≡ Cut (record { reads = 0; programs = 1; erases = 0; stores = 2 })
+    pub cut_at_two : (write_call l s no_chip i xs 2).answer ≡ Ok (Cut (record { reads = 0; programs = 1; erases = 0; stores = 2 }))
     pub reads_zeros : (buffer : List ℕ) → length buffer ≡ W
-        → ◌≡◌ {A = ReadOutcome} (read_call l (write_call l s no_chip i xs 2).images no_chip i buffer) (record { answer = ReadDone no_counts Unwritten; buffer = replicate W 0 })
-    pub done_at_three : (write_call l s no_chip i xs 3).answer ≡ Done (record { reads = 0; programs = 1; erases = 0; stores = 3 })
+        → ◌≡◌ {A = ReadOutcome} (read_call l (write_call l s no_chip i xs 2).images no_chip i buffer) (record { answer = Ok (record { counts = no_counts; origin = Unwritten }); buffer = replicate W 0 })
+    pub done_at_three : (write_call l s no_chip i xs 3).answer ≡ Ok (Done (record { reads = 0; programs = 1; erases = 0; stores = 3 }))
 
 -- on images as a format leaves them
 module _ (l : Layout) (u : Usable l) (s : Images) (f : Fresh l s) where
@@ -59,7 +58,7 @@ module _ (l : Layout) (u : Usable l) (s : Images) (f : Fresh l s) where
   clean_block_lem c chip b block =
       all_true K (clean_in l (page_at l s.chips c) b) (λ i place. rw (f.page c (page_in l b i) chip (digits_lt block place)) (erased_clean l))
 
-  first_place : (c : ℕ) → c < N + 1 → place_of l (page_at l s.chips c) ≡ At (page_in l 0 0)
+  first_place : (c : ℕ) → c < N + 1 → place_of l (page_at l s.chips c) ≡ Some (page_in l 0 0)
   unfolding open_block
   first_place c chip =
       let x = page_at l s.chips c in
@@ -84,7 +83,7 @@ module _ (l : Layout) (u : Usable l) (s : Images) (f : Fresh l s) where
         ne_eqb 0 M (omega (arith, u.within.partials_low)),
       )
 
-  lowest_slot : lowest_free_slot l (record_at l s.records) ≡ At 0
+  lowest_slot : lowest_free_slot l (record_at l s.records) ≡ Some 0
   unfolding lowest_free_slot empty_record
   lowest_slot =
       first_is (M + 1) (free_slot l (record_at l s.records)) 0 (omega arith)
@@ -115,7 +114,7 @@ module _ (l : Layout) (u : Usable l) (s : Images) (f : Fresh l s) where
 
     -- a read of it, while the records are as they were: zeros, and no page is read for them
     zeros : (t : Images) → Sound l t → t.records ≡ s.records → (buffer : List ℕ) → length buffer ≡ W
-        → ◌≡◌ {A = ReadOutcome} (read_call l t no_chip i buffer) (record { answer = ReadDone no_counts Unwritten; buffer = replicate W 0 })
+        → ◌≡◌ {A = ReadOutcome} (read_call l t no_chip i buffer) (record { answer = Ok (record { counts = no_counts; origin = Unwritten }); buffer = replicate W 0 })
     unfolding read_call fetch fetch_member empty_record
     zeros t sound same buffer whole =
         rw (

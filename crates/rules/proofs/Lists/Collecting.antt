@@ -6,7 +6,7 @@ use mathlib.Core.Logic.{◌≢◌}
 use mathlib.Core.Bool.{true}
 use mathlib.Core.List.{List}
 use borrow.Author.Tests.{not-true}
-use Rattle.ranges.specs.declared.Found.TheVariants.{At}
+use Rattle.std.specs.Prelude.{Some}
 use Rattle.ranges.specs.Look.{when_found, some_below}
 use Rattle.ranges.proofs.Looks.{by_found, all_at, first_at, first_found, least_at}
 use Rattle.ranges.proofs.Tests.{and_both}
@@ -35,10 +35,10 @@ module _ (l : Layout) where
   pub record HasPlace (c : ℕ) (t : Images) : Type 0 where
     pub rest : (collection_at l t.records).phase ≡ 0
     pub place : ℕ
-    pub found : place_of l (page_at l t.chips c) ≡ At place
+    pub found : place_of l (page_at l t.chips c) ≡ Some place
 
   -- the victim is a block that can be collected
-  pub victim_collectable : (c : ℕ) (x : ℕ → Page) (r : ℕ → Record) (v : ℕ) → victim_of l c x r ≡ At v → (v < l.B) × (collectable l c x r v ≡ true)
+  pub victim_collectable : (c : ℕ) (x : ℕ → Page) (r : ℕ → Record) (v : ℕ) → victim_of l c x r ≡ Some v → (v < l.B) × (collectable l c x r v ≡ true)
   unfolding victim_of
   victim_collectable c x r v victim = let least = least_at l.B (collectable l c x r) (named_count l c x r) v victim in (least.0, least.1)
 
@@ -56,14 +56,14 @@ module _ (l : Layout) (u : Usable l) where
     here = sound_chip l u s f c chip
 
     -- the destination is there: some block is wholly clean
-    pub destination : (d : ℕ) × (lowest_clean_block l x ≡ At d)
+    pub destination : (d : ℕ) × (lowest_clean_block l x ≡ Some d)
     unfolding lowest_clean_block
     destination =
         let (b, fits, is) = here.spare (rest_collects (collection_at l s.records) c rest) in
         first_found B (clean_block l x) b fits is
 
     -- such a block and the destination are as a collection needs them
-    pub chosen_on : (v d : ℕ) → v < B → collectable l c x r v ≡ true → lowest_clean_block l x ≡ At d → Chosen l s c v d
+    pub chosen_on : (v d : ℕ) → v < B → collectable l c x r v ≡ true → lowest_clean_block l x ≡ Some d → Chosen l s c v d
     unfolding collectable named_count full_block lowest_clean_block
     chosen_on v d block can clean =
         let full = (and_both (full_block l x v) (some_below K (unnamed_in l r c v)) can).0 in
@@ -108,7 +108,7 @@ module _ (l : Layout) (u : Usable l) where
           (finish_leads l u t k.sound)))
 
     -- so it is with that of the chip
-    pub collect_leads : (v : ℕ) → victim_of l c x r ≡ At v → Leads l (Kept l) (HasPlace l c) (collect_steps l c s) s
+    pub collect_leads : (v : ℕ) → victim_of l c x r ≡ Some v → Leads l (Kept l) (HasPlace l c) (collect_steps l c s) s
     unfolding collect_steps when_found
     collect_leads v victim = let (block, can) = victim_collectable l c x r v victim in rw victim (block_leads v block can)
 

@@ -18,8 +18,7 @@ use Rattle.layout.specs.Record.{Record, record_at}
 use Rattle.layout.specs.Collection.{Collection, collection_at}
 use Rattle.layout.specs.Images.{Images, slot_at}
 use Rattle.layout.proofs.Codec.{PageFits, length_blank}
-use Rattle.layout.proofs.Pages.{page_in_fits, same_place, in_own_block, in_other_block, page_number_lem}
-use Rattle.layout.proofs.Pages.{none_fits}
+use Rattle.layout.proofs.Pages.{page_in_fits, same_place, in_own_block, in_other_block, page_number_lem, none_fits}
 use Rattle.steps.specs.Store.{program, collection, apply}
 use Rattle.steps.specs.Steps.{plain, steps_below, apply_all}
 use Rattle.steps.proofs.Prefixes.{Leads, leads_nil, leads_one, leads_cons, leads_append, leads_below}

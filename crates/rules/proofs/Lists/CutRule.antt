@@ -1,4 +1,6 @@
 -- "If the list is longer than the allowance it stops there and answers cut with the counts so far; otherwise done. Cut is given in no other case."
+use Rattle.std.specs.Prelude.{Result, Ok, Err}
+use Rattle.rules.specs.declared.Refusal.{Refusal}
 use Prim.Native.Nat.{ℕ, ◌+◌, ◌≤◌, ◌<◌}
 use native.Mathlib.Omega.{arith}
 use mathlib.Core.Path.{◌≡◌, refl, sym, ap, ◌∙◌}
@@ -12,15 +14,10 @@ use Rattle.layout.specs.Images.{Images}
 use Rattle.steps.specs.declared.Counts.{Counts}
 use Rattle.steps.specs.Steps.{Step, no_counts, made, is_cut, apply_all, reading as pagesRead}
 use Rattle.steps.proofs.Totals.{with_totals, counts_are, cut_stores}
-use Rattle.rules.specs.declared.Refusal.{Refusal}
-use Rattle.rules.specs.declared.Check.{Check}
-use Rattle.rules.specs.declared.Check.TheVariants.{Passed, Failed}
+use Rattle.rules.specs.Refusals.{Check, checked, buffers_rows, images_rows, read_rows, write_rows, commit_rows, collect_rows, find_rows, add_rows}
 use Rattle.rules.specs.declared.Answer.{Answer}
-use Rattle.rules.specs.declared.Answer.TheVariants.{Done, Cut, Refused}
-use Rattle.rules.specs.declared.Reading.TheVariants.{Refused as ReadRefused}
-use Rattle.rules.specs.declared.Finding.TheVariants.{Done as FindDone, Refused as FindRefused}
+use Rattle.rules.specs.declared.Answer.TheVariants.{Done, Cut}
 use Rattle.rules.specs.Read.{fetch}
-use Rattle.rules.specs.Refusals.{checked, buffers_rows, images_rows, read_rows, write_rows, commit_rows, collect_rows, find_rows, add_rows}
 use Rattle.rules.specs.Open.{open_steps}
 use Rattle.rules.specs.Collect.{collect_steps}
 use Rattle.rules.specs.Commit.{commit_steps}
@@ -35,37 +32,37 @@ verdict_number done = 0
 verdict_number cut = 1
 verdict_number refused = 2
 
-abbrev kind_of : Answer → ℕ
-kind_of (Done n) = 0
-kind_of (Cut n) = 1
-kind_of (Refused r) = 2
+abbrev kind_of : Result Answer Refusal → ℕ
+kind_of (Ok (Done n)) = 0
+kind_of (Ok (Cut n)) = 1
+kind_of (Err r) = 2
 
-abbrev stores_cut : Answer → ℕ
-stores_cut (Done n) = 0
-stores_cut (Cut n) = n.stores
-stores_cut (Refused r) = 0
+abbrev stores_cut : Result Answer Refusal → ℕ
+stores_cut (Ok (Done n)) = 0
+stores_cut (Ok (Cut n)) = n.stores
+stores_cut (Err r) = 0
 
 module _ (l : Layout) where
   -- the outcome o of a call on images s with its check, the counts n before its first store, its allowance a and its list xs
   pub record CutRule (check : Check) (n : Counts) (a : ℕ) (xs : List Step) (s : Images) (o : Outcome) : Type 0 where
     -- "all buffers unchanged"
-    pub refusing : (r : Refusal) → check ≡ Failed r → o ≡ record { answer = Refused r; images = s }
+    pub refusing : (r : Refusal) → check ≡ Err r → o ≡ record { answer = Err r; images = s }
     -- "it stops there and answers cut with the counts so far"; "the list's first stores, as many as the allowance, stand whole"
-    pub cutting : check ≡ Passed → a < length xs → o ≡ record { answer = Cut (with_totals n (made a xs)); images = apply_all l (made a xs) s }
+    pub cutting : check ≡ Ok tt → a < length xs → o ≡ record { answer = Ok (Cut (with_totals n (made a xs))); images = apply_all l (made a xs) s }
     -- "otherwise done"
-    pub finishing : check ≡ Passed → length xs ≤ a → o ≡ record { answer = Done (with_totals n xs); images = apply_all l xs s }
+    pub finishing : check ≡ Ok tt → length xs ≤ a → o ≡ record { answer = Ok (Done (with_totals n xs)); images = apply_all l xs s }
     -- "Cut is given in no other case."
-    pub only_cut : (k : Counts) → o.answer ≡ Cut k → (check ≡ Passed) × (a < length xs) × (k.stores ≡ n.stores + a)
+    pub only_cut : (k : Counts) → o.answer ≡ Ok (Cut k) → (check ≡ Ok tt) × (a < length xs) × (k.stores ≡ n.stores + a)
 
-  cut_only : (check : Check) (n : Counts) (a : ℕ) (steps : Images → List Step) (s : Images) (k : Counts) → (outcome l check n a steps s).answer ≡ Cut k
-      → (check ≡ Passed) × (a < length (steps s)) × (k.stores ≡ n.stores + a)
+  cut_only : (check : Check) (n : Counts) (a : ℕ) (steps : Images → List Step) (s : Images) (k : Counts) → (outcome l check n a steps s).answer ≡ Ok (Cut k)
+      → (check ≡ Ok tt) × (a < length (steps s)) × (k.stores ≡ n.stores + a)
   unfolding run
-  cut_only Passed n a steps s k e = by_test (is_cut a (steps s))
+  cut_only (Ok tt) n a steps s k e = by_test (is_cut a (steps s))
       (λ h.
       let less = ltb-true a (length (steps s)) h in
       (refl, less, sym (ap stores_cut (rw h at e)) ∙ cut_stores a (steps s) n less))
       (λ h. absurd (omega (arith, ap kind_of (rw h at e))))
-  cut_only (Failed r) n a steps s k e = absurd (omega (arith, ap kind_of e))
+  cut_only (Err r) n a steps s k e = absurd (omega (arith, ap kind_of e))
 
   outcome_rule : (check : Check) (n : Counts) (a : ℕ) (steps : Images → List Step) (s : Images) → CutRule check n a (steps s) s (outcome l check n a steps s)
   unfolding run
@@ -87,14 +84,14 @@ module _ (l : Layout) where
     -- the counts begin with the log's reads, "even when cut"
     pub add : (s : Images) (lost : ℕ) (ticket : List ℕ) (a : ℕ)
         → CutRule (checked (add_rows l s lost ticket)) (pagesRead (log_reads l s lost)) a (add_steps l lost ticket s) s (add_call l s lost ticket a)
-    pub read_refusing : (s : Images) (lost page : ℕ) (buffer : List ℕ) (r : Refusal) → checked (read_rows l s lost page buffer) ≡ Failed r
-        → read_call l s lost page buffer ≡ record { answer = ReadRefused r; buffer = buffer }
-    pub reading : (s : Images) (lost page : ℕ) (buffer : List ℕ) → checked (read_rows l s lost page buffer) ≡ Passed
+    pub read_refusing : (s : Images) (lost page : ℕ) (buffer : List ℕ) (r : Refusal) → checked (read_rows l s lost page buffer) ≡ Err r
+        → read_call l s lost page buffer ≡ record { answer = Err r; buffer = buffer }
+    pub reading : (s : Images) (lost page : ℕ) (buffer : List ℕ) → checked (read_rows l s lost page buffer) ≡ Ok tt
         → read_call l s lost page buffer ≡ read_into (fetch l s lost page)
-    pub find_refusing : (s : Images) (lost lot bag : ℕ) (r : Refusal) → checked (find_rows l s lost) ≡ Failed r → find_call l s lost lot bag ≡ FindRefused r
-    pub finding : (s : Images) (lost lot bag : ℕ) → checked (find_rows l s lost) ≡ Passed
+    pub find_refusing : (s : Images) (lost lot bag : ℕ) (r : Refusal) → checked (find_rows l s lost) ≡ Err r → find_call l s lost lot bag ≡ Err r
+    pub finding : (s : Images) (lost lot bag : ℕ) → checked (find_rows l s lost) ≡ Ok tt
         → find_call l s lost lot bag
-        ≡ FindDone (pagesRead (log_reads l s lost)) (standing l (contents l s lost) lot bag) (log_origin l (contents l s lost) (origins l s lost) lot bag)
+        ≡ Ok (record { counts = pagesRead (log_reads l s lost); standing = standing l (contents l s lost) lot bag; origin = log_origin l (contents l s lost) (origins l s lost) lot bag })
 
   pub cut_rules : CutRules
   unfolding format_call open_call write_call commit_call collect_call add_call read_call find_call

@@ -7,7 +7,7 @@ use lib.ListN.{length}
 use lib.Seq.{take_all}
 use lib.Dec.{eqb}
 use borrow.Author.Tests.{ne_eqb}
-use Rattle.ranges.specs.declared.Found.TheVariants.{At}
+use Rattle.std.specs.Prelude.{Some, Ok}
 use Rattle.ranges.specs.Look.{when_found}
 use Rattle.ranges.proofs.Looks.{by_test, by_order}
 use Rattle.layout.specs.Layout.{Layout, no_chip}
@@ -15,7 +15,6 @@ use Rattle.layout.specs.Rotation.{stripe_of}
 use Rattle.layout.specs.Images.{Images}
 use Rattle.steps.specs.Steps.{Step, made, apply_all}
 use Rattle.steps.proofs.Prefixes.{Every, every_nil, Closes, closes_leads, closes_weaken}
-use Rattle.rules.specs.declared.Check.TheVariants.{Passed}
 use Rattle.rules.specs.Open.{finish_steps, open_steps}
 use Rattle.rules.specs.Collect.{collect_steps}
 use Rattle.rules.specs.Commit.{commit_steps}
@@ -38,8 +37,8 @@ unfolding open_steps
 open_lost l s lost d = rw (ne_eqb lost no_chip d)
 
 -- an addition that passes its rows, with a log that ends at t, is the write of the page that t falls in
-pub add_writes : (l : Layout) (s : Images) (lost : ℕ) (ticket : List ℕ) → checked (add_rows l s lost ticket) ≡ Passed
-    → (t : ℕ) → log_end l (contents l s lost) ≡ At t → WriteAccepted l s (falls_in l t) (with_ticket l (contents l s lost) ticket t)
+pub add_writes : (l : Layout) (s : Images) (lost : ℕ) (ticket : List ℕ) → checked (add_rows l s lost ticket) ≡ Ok tt
+    → (t : ℕ) → log_end l (contents l s lost) ≡ Some t → WriteAccepted l s (falls_in l t) (with_ticket l (contents l s lost) ticket t)
 add_writes l s lost ticket passed t end =
     let (none_lost, o) = add_accepted l s lost ticket passed in
     let w = o.settled.within in
@@ -90,12 +89,12 @@ module _ (l : Layout) (u : Usable l) (s : Images) where
 
   -- an addition, up to its last store and with it
   module _ (lost : ℕ) (ticket : List ℕ) where
-    pub add_ends : checked (add_rows l s lost ticket) ≡ Passed → (t : ℕ) → log_end l (contents l s lost) ≡ At t
+    pub add_ends : checked (add_rows l s lost ticket) ≡ Ok tt → (t : ℕ) → log_end l (contents l s lost) ≡ Some t
         → Closes l (Carries l) (Wrote l (falls_in l t) (with_ticket l (contents l s lost) ticket t)) (StoresRecord (stripe_of l (falls_in l t))) (add_steps l lost ticket s) s
     unfolding add_steps when_found
     add_ends passed t end = rw end (write_ends (falls_in l t) (with_ticket l (contents l s lost) ticket t) (add_writes l s lost ticket passed t end))
 
-    pub add_every : checked (add_rows l s lost ticket) ≡ Passed → Every l (Sound l) (add_steps l lost ticket s) s
+    pub add_every : checked (add_rows l s lost ticket) ≡ Ok tt → Every l (Sound l) (add_steps l lost ticket s) s
     add_every passed =
         let (none_lost, o) = add_accepted l s lost ticket passed in
         let (t, end) = o.end in

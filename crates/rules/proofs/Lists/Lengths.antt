@@ -6,8 +6,7 @@ use mathlib.Core.Bool.{Bool, true, false, cond}
 use mathlib.Core.List.{List, [], ◌∷◌}
 use lib.ListN.{length, length-append}
 use lib.Dec.{eqb}
-use Rattle.ranges.specs.declared.Found.{Found}
-use Rattle.ranges.specs.declared.Found.TheVariants.{At, Nothing}
+use Rattle.std.specs.Prelude.{Option, Some, None}
 use Rattle.ranges.specs.Look.{count_below, when_found}
 use Rattle.ranges.proofs.Looks.{by_test}
 use Rattle.layout.specs.Layout.{Layout, page_in}
@@ -38,10 +37,10 @@ at_most_one true x = omega arith
 at_most_one false x = omega arith
 
 -- what is found and what is not make lists of at most n steps
-found_length : (x : Found) (n : ℕ) (f : ℕ → List Step) (other : List Step) → ((i : ℕ) → length (f i) ≤ n) → length other ≤ n → length (when_found x f other) ≤ n
+found_length : (x : Option ℕ) (n : ℕ) (f : ℕ → List Step) (other : List Step) → ((i : ℕ) → length (f i) ≤ n) → length other ≤ n → length (when_found x f other) ≤ n
 unfolding when_found
-found_length (At i) n f other h rest = h i
-found_length Nothing n f other h rest = rest
+found_length (Some i) n f other h rest = h i
+found_length None n f other h rest = rest
 
 module _ (l : Layout) where
   open l use {N, K, B, S}
@@ -84,16 +83,16 @@ module _ (l : Layout) where
       at_most_one (named_in l r c v i)
       (fed (copy_feed l c s (page_in l v i)) (λ xs. program c (page_in l d (count_below i (named_in l r c v))) (copy_of l (page_in l v i) (x (page_in l v i)) xs)))
 
-  collect_of : (c v : ℕ) (s : Images) (destination : Found)
+  collect_of : (c v : ℕ) (s : Images) (destination : Option ℕ)
       → length (when_found destination (λ d. and_then l (copy_steps l c (page_at l s.chips c) (copy_feed l c s) (record_at l s.records) v d) (finish_steps l) s) []) ≤ 2 * K + 4
   unfolding when_found and_then copy_steps
-  collect_of c v s (At d) =
+  collect_of c v s (Some d) =
       let x = page_at l s.chips c in
       let r = record_at l s.records in
       let copies = rw mul-one at (length_below 1 K (copy_from l c x (copy_feed l c s) r v d) (λ i low. copy_length c v d i s)) in
       let rest = finish_length (apply_all l (copy_steps l c x (copy_feed l c s) r v d) s) in
       rw (length-append, length-append) (omega arith)
-  collect_of c v s Nothing = omega arith
+  collect_of c v s None = omega arith
 
   -- the collection of a block: phase 1, each of its places, phase 2, and its end
   block_length : (c v : ℕ) (s : Images) → length (collect_block l c v s) ≤ 2 * K + 4

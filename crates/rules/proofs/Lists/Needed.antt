@@ -8,8 +8,7 @@ use mathlib.Core.List.{List, [], ◌∷◌}
 use lib.ListN.{length, length-append}
 use lib.Dec.{eqb}
 use borrow.Author.Tests.{eq-eqb, ne_eqb}
-use Rattle.ranges.specs.declared.Found.{Found}
-use Rattle.ranges.specs.declared.Found.TheVariants.{At, Nothing}
+use Rattle.std.specs.Prelude.{Option, Some, None}
 use Rattle.ranges.specs.Look.{count_below, when_found}
 use Rattle.ranges.proofs.Looks.{by_test, both}
 use Rattle.ranges.proofs.Tallies.{ones}
@@ -39,11 +38,11 @@ one_step true x = refl
 one_step false x = refl
 
 -- what is found and what is not make lists of at most n steps
-pub found_length : (x : Found) (n : ℕ) (f : ℕ → List Step) (other : List Step) → ((i : ℕ) → x ≡ At i → length (f i) ≤ n) → (x ≡ Nothing → length other ≤ n)
+pub found_length : (x : Option ℕ) (n : ℕ) (f : ℕ → List Step) (other : List Step) → ((i : ℕ) → x ≡ Some i → length (f i) ≤ n) → (x ≡ None → length other ≤ n)
     → length (when_found x f other) ≤ n
 unfolding when_found
-found_length (At i) n f other h rest = h i refl
-found_length Nothing n f other h rest = rest refl
+found_length (Some i) n f other h rest = h i refl
+found_length None n f other h rest = rest refl
 
 module _ (l : Layout) where
   open l use {N, K, B, S}

@@ -8,7 +8,7 @@ use mathlib.Core.List.{List, [], ◌∷◌}
 use lib.ListN.{length}
 use lib.Dec.{eqb}
 use borrow.Author.Tests.{eqb-true, eqb-false}
-use Rattle.ranges.specs.declared.Found.TheVariants.{At}
+use Rattle.std.specs.Prelude.{Some}
 use Rattle.ranges.specs.Look.{count_below, when_found}
 use Rattle.ranges.proofs.Looks.{by_test}
 use Rattle.ranges.proofs.Tests.{and_both}
@@ -116,7 +116,7 @@ module _ (l : Layout) (u : Usable l) (page : ℕ) (inside : page < l.N * l.S) (x
     abbrev r : ℕ → Record
     r = record_at l t.records
 
-    slot_found : (i : ℕ) × (lowest_free_slot l r ≡ At i) × (i < M + 1) × ((k : ℕ) → k < S → (r k).slot ≢ i)
+    slot_found : (i : ℕ) × (lowest_free_slot l r ≡ Some i) × (i < M + 1) × ((k : ℕ) → k < S → (r k).slot ≢ i)
     slot_found = free_slot_lem l u.within r (collection_at l t.records) g.stripes
 
     abbrev partial : List ℕ

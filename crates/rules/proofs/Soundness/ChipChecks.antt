@@ -9,8 +9,7 @@ use lib.Dec.{eqb}
 use borrow.Author.Tests.{eqb-true, not-true, eq-eqb}
 use Rattle.ranges.specs.Look.{all_below, some_below, count_below}
 use Rattle.ranges.proofs.Looks.{all_true, all_at, some_true, some_at}
-use Rattle.ranges.proofs.Tests.{and_both, and_left, and_right, both_and, chain_all, cond_by, cond_equal, cond_equal_by, cond_other, cond_true, false_not, under, under_by, unless_equal}
-use Rattle.ranges.proofs.Tests.{unless_equal_by, cond_false}
+use Rattle.ranges.proofs.Tests.{and_both, and_left, and_right, both_and, chain_all, cond_by, cond_equal, cond_equal_by, cond_other, cond_true, false_not, under, under_by, unless_equal, unless_equal_by, cond_false}
 use Rattle.ranges.proofs.Counts.{count_one, one_count}
 use Rattle.layout.specs.Layout.{Layout, none, page_in}
 use Rattle.layout.specs.Page.{Page}

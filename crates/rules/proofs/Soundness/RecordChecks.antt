@@ -10,8 +10,7 @@ use lib.Dec.{leb, ltb, eqb}
 use borrow.Author.Tests.{ltb-true, ltb-false, leb-true, eqb-true, eqb-false, not-true, lt-ltb, le-ltb, le-leb, eq-eqb, ne_eqb}
 use Rattle.ranges.specs.Look.{all_below, some_below, count_below}
 use Rattle.ranges.proofs.Looks.{all_true, all_at, some_false, some_none}
-use Rattle.ranges.proofs.Tests.{chain, AllTrue, and_both, both_and, chain_all, cond_equal, cond_equal_by, cond_other, differ, false_not, or_by, under, under_by}
-use Rattle.ranges.proofs.Tests.{unless_equal, unless_equal_by, differ_by, or_else}
+use Rattle.ranges.proofs.Tests.{chain, AllTrue, and_both, both_and, chain_all, cond_equal, cond_equal_by, cond_other, differ, false_not, or_by, under, under_by, unless_equal, unless_equal_by, differ_by, or_else}
 use Rattle.layout.specs.Layout.{Layout, none, is_none, pages}
 use Rattle.layout.specs.Record.{Record, bit, no_slot, slotted, slot_of}
 use Rattle.layout.specs.Collection.{Collection}

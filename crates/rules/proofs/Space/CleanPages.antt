@@ -6,7 +6,7 @@ use native.Mathlib.Omega.{arith}
 use mathlib.Core.Path.{◌≡◌, sym}
 use mathlib.Core.Bool.{Bool, true, false}
 use borrow.Author.Tests.{eq-eqb, ne_eqb, not-true}
-use Rattle.ranges.specs.declared.Found.TheVariants.{At, Nothing}
+use Rattle.std.specs.Prelude.{Some, None}
 use Rattle.ranges.specs.Look.{count_below, sum_below}
 use Rattle.ranges.proofs.Looks.{by_found, all_at}
 use Rattle.ranges.proofs.Counts.{count_le, count_start, count_all, count_positive, count_zero}
@@ -51,7 +51,7 @@ module _ (l : Layout) (x : ℕ → Page) where
 module _ (l : Layout) (w : Within l) (r : ℕ → Record) (x : ℕ → Page) (c : ℕ) (co : Collection) (f : ChipSound l r x c co) (still : collecting co c ≡ false) where
   open l use {K, B}
 
-  pub place_counted : (p : ℕ) → place_of l x ≡ At p → K < clean_pages l x
+  pub place_counted : (p : ℕ) → place_of l x ≡ Some p → K < clean_pages l x
   place_counted p e =
       let o = place_at l w r x c co f still p e in
       let b = o.block in
@@ -67,7 +67,7 @@ module _ (l : Layout) (w : Within l) (r : ℕ → Record) (x : ℕ → Page) (c 
   full_used d t i h = not-true (clean_in l x d i) (all_at K (used_in l x d) t i h)
 
   -- where there is no place, only the spare block has clean pages
-  no_more : place_of l x ≡ Nothing → clean_pages l x ≤ K
+  no_more : place_of l x ≡ None → clean_pages l x ≤ K
   no_more e =
       let (b, fits, t) = f.spare still in
       let none_else : (d : ℕ) → 0 ≤ d → d < B → but b (in_block l x) d ≡ 0 = λ d _ h. elim (ℕ_discrete d b) [
@@ -76,5 +76,5 @@ module _ (l : Layout) (w : Within l) (r : ℕ → Record) (x : ℕ → Page) (c 
       ] in
       omega (arith, by_blocks l x B, sum_but B b (in_block l x) fits, sum_beyond 0 B (but b (in_block l x)) (omega arith) none_else, sum_start (but b (in_block l x)), count_le K (clean_in l x b))
 
-  pub counted_place : K < clean_pages l x → (p : ℕ) × (place_of l x ≡ At p)
+  pub counted_place : K < clean_pages l x → (p : ℕ) × (place_of l x ≡ Some p)
   counted_place more = by_found (place_of l x) (λ p e. (p, e)) (λ e. absurd (omega (arith, no_more e)))

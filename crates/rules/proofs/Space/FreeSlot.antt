@@ -6,7 +6,7 @@ use mathlib.Core.Logic.{◌≢◌}
 use mathlib.Core.Bool.{true, false, not, cond}
 use lib.Dec.{eqb, ltb}
 use borrow.Author.Tests.{lt-ltb, le-ltb, ne_eqb, eqb-true, not-false}
-use Rattle.ranges.specs.declared.Found.TheVariants.{At}
+use Rattle.std.specs.Prelude.{Some}
 use Rattle.ranges.specs.Look.{count_below}
 use Rattle.ranges.proofs.Looks.{by_test, by_order, by_three, by_same, some_cong, some_false, first_at, first_is, first_cong}
 use Rattle.ranges.proofs.Counts.{count_cong}
@@ -72,7 +72,7 @@ module _ (l : Layout) where
         (λ q. rw (q, h.freed) (ne_eqb no_slot (r k).slot (omega (arith, h.slot, w.partials_high))))
         (λ o. ne_eqb (r' j).slot (r k).slot (λ e. h.own j below o (sym (h.others j below o) ∙ e)))))
 
-    pub free_lowered : (i : ℕ) → lowest_free_slot l r ≡ At i → lowest_free_slot l r' ≡ cond (ltb i (r k).slot) (At i) (At (r k).slot)
+    pub free_lowered : (i : ℕ) → lowest_free_slot l r ≡ Some i → lowest_free_slot l r' ≡ cond (ltb i (r k).slot) (Some i) (Some (r k).slot)
     unfolding lowest_free_slot
     free_lowered i e =
         let (low, t, before) = first_at (M + 1) (free_slot l r) i e in

@@ -5,7 +5,7 @@ use mathlib.Core.Path.{◌≡◌}
 use mathlib.Core.Logic.{◌≢◌}
 use mathlib.Core.Bool.{true, false, not}
 use borrow.Author.Tests.{le-leb, lt-leb, not-true, not-false}
-use Rattle.ranges.specs.declared.Found.TheVariants.{At, Nothing}
+use Rattle.std.specs.Prelude.{Some, None}
 use Rattle.ranges.specs.Look.{count_below, first_below, when_found}
 use Rattle.ranges.proofs.Looks.{by_test, by_order, by_found, both, all_at, all_false, first_at, first_found, first_nothing}
 use Rattle.ranges.proofs.Tests.{and_both}
@@ -46,24 +46,24 @@ module _ (l : Layout) (x : ℕ → Page) where
       (λ e. both (clean_in l x b i) t (not-true (clean_in l x b i) (all_at K (used_in l x b) (is_full b begun e) i place)))
 
   -- the answers
-  pub place_begun : (b i : ℕ) → first_below B (open_block l x) ≡ At b → first_below K (clean_in l x b) ≡ At i → place_of l x ≡ At (page_in l b i)
+  pub place_begun : (b i : ℕ) → first_below B (open_block l x) ≡ Some b → first_below K (clean_in l x b) ≡ Some i → place_of l x ≡ Some (page_in l b i)
   unfolding place_of lowest_clean_page when_found
   place_begun b i e q = rw (e, q)
 
-  pub place_fresh : (b : ℕ) → first_below B (open_block l x) ≡ Nothing → 2 ≤ count_below B (clean_block l x) → first_below B (clean_block l x) ≡ At b
-      → place_of l x ≡ At (page_in l b 0)
+  pub place_fresh : (b : ℕ) → first_below B (open_block l x) ≡ None → 2 ≤ count_below B (clean_block l x) → first_below B (clean_block l x) ≡ Some b
+      → place_of l x ≡ Some (page_in l b 0)
   unfolding place_of lowest_clean_block when_found
   place_fresh b e h q = rw (e, le-leb 2 (count_below B (clean_block l x)) h, q)
 
-  pub place_nowhere : first_below B (open_block l x) ≡ Nothing → count_below B (clean_block l x) < 2 → place_of l x ≡ Nothing
+  pub place_nowhere : first_below B (open_block l x) ≡ None → count_below B (clean_block l x) < 2 → place_of l x ≡ None
   unfolding place_of when_found
   place_nowhere e h = rw (e, lt-leb 2 (count_below B (clean_block l x)) h)
 
   -- and no others
   pub by_place {ℓ} : {P : Type ℓ}
-      → ((b i : ℕ) → first_below B (open_block l x) ≡ At b → first_below K (clean_in l x b) ≡ At i → P)
-      → ((b : ℕ) → first_below B (open_block l x) ≡ Nothing → 2 ≤ count_below B (clean_block l x) → first_below B (clean_block l x) ≡ At b → P)
-      → (first_below B (open_block l x) ≡ Nothing → count_below B (clean_block l x) < 2 → P)
+      → ((b i : ℕ) → first_below B (open_block l x) ≡ Some b → first_below K (clean_in l x b) ≡ Some i → P)
+      → ((b : ℕ) → first_below B (open_block l x) ≡ None → 2 ≤ count_below B (clean_block l x) → first_below B (clean_block l x) ≡ Some b → P)
+      → (first_below B (open_block l x) ≡ None → count_below B (clean_block l x) < 2 → P)
       → P
   by_place begun fresh nowhere =
       by_found (first_below B (open_block l x))
@@ -77,7 +77,7 @@ module _ (l : Layout) (x : ℕ → Page) where
       fresh b e h q))
 
   -- where there is none, all blocks are full but the one that is clean
-  pub all_full : (b d : ℕ) → b < B → d < B → d ≢ b → clean_block l x b ≡ true → place_of l x ≡ Nothing → full_block l x d ≡ true
+  pub all_full : (b d : ℕ) → b < B → d < B → d ≢ b → clean_block l x b ≡ true → place_of l x ≡ None → full_block l x d ≡ true
   all_full b d fits fits' other t e =
       by_place
       (λ k i o q. cc (place_begun k i o q))

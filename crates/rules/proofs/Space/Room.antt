@@ -7,7 +7,7 @@ use mathlib.Core.Logic.{◌≢◌}
 use mathlib.Core.Bool.{true, false, not, cond}
 use lib.Dec.{eqb}
 use borrow.Author.Tests.{ne_eqb, eqb-true, eqb-false, not-true, not-false}
-use Rattle.ranges.specs.declared.Found.TheVariants.{At, Nothing}
+use Rattle.std.specs.Prelude.{Some, None}
 use Rattle.ranges.specs.Look.{some_below, count_below, first_below, when_found}
 use Rattle.ranges.proofs.Looks.{by_test, by_found, both, not_found, some_at, some_none, first_at, first_found, first_nothing, least_at, least_found, least_nothing}
 use Rattle.ranges.proofs.Tests.{and_both}
@@ -50,7 +50,7 @@ module _ (l : Layout) (w : Within l) where
         let (d, fits, t) = f.spare still in
         record { block = d; fits = fits; other = λ e. both (clean_block l x b) (rw e at t) begun; is_clean = t }
 
-    at_begun : (p b i : ℕ) → place_of l x ≡ At p → first_below B (open_block l x) ≡ At b → first_below K (clean_in l x b) ≡ At i → PlaceAt l x p
+    at_begun : (p b i : ℕ) → place_of l x ≡ Some p → first_below B (open_block l x) ≡ Some b → first_below K (clean_in l x b) ≡ Some i → PlaceAt l x p
     at_begun p b i e o q =
         let (block, t, _) = first_at B (open_block l x) b o in
         let (place, s, before) = first_at K (clean_in l x b) i q in
@@ -62,8 +62,8 @@ module _ (l : Layout) (w : Within l) where
           spare = spare_but b (open_begun l x b t);
         }
 
-    at_fresh : (p b : ℕ) → place_of l x ≡ At p → first_below B (open_block l x) ≡ Nothing → 2 ≤ count_below B (clean_block l x)
-        → first_below B (clean_block l x) ≡ At b → PlaceAt l x p
+    at_fresh : (p b : ℕ) → place_of l x ≡ Some p → first_below B (open_block l x) ≡ None → 2 ≤ count_below B (clean_block l x)
+        → first_below B (clean_block l x) ≡ Some b → PlaceAt l x p
     at_fresh p b e o h q =
         let (block, t, _) = first_at B (clean_block l x) b q in
         let (d, fits, other, s) = count_other B (clean_block l x) b h in
@@ -77,7 +77,7 @@ module _ (l : Layout) (w : Within l) where
         }
 
     -- a place that is found can be programmed, and leaves a clean block
-    pub place_at : (p : ℕ) → place_of l x ≡ At p → PlaceAt l x p
+    pub place_at : (p : ℕ) → place_of l x ≡ Some p → PlaceAt l x p
     place_at p e =
         by_place l x
         (λ b i. at_begun p b i e)
@@ -86,7 +86,7 @@ module _ (l : Layout) (w : Within l) where
 
   -- two blocks with clean pages, one of them wholly clean, are enough
   pub place_found : (x : ℕ → Page) (v d i : ℕ) → v < B → d < B → v ≢ d → clean_block l x v ≡ true → i < K → clean_in l x d i ≡ true
-      → (p : ℕ) × (place_of l x ≡ At p)
+      → (p : ℕ) × (place_of l x ≡ Some p)
   place_found x v d i fits fits' apart t place s =
       by_place l x
       (λ b k o q. (page_in l b k, place_begun l x b k o q))
@@ -182,7 +182,7 @@ module _ (l : Layout) (w : Within l) where
 
   -- with no place on a chip there is a block to collect
   pub victim_found : (r : ℕ → Record) (x : ℕ → Page) (c : ℕ) (co : Collection) → c < N + 1 → RecordsSound l r co → ChipSound l r x c co
-      → collecting co c ≡ false → place_of l x ≡ Nothing → (b : ℕ) × (victim_of l c x r ≡ At b)
+      → collecting co c ≡ false → place_of l x ≡ None → (b : ℕ) × (victim_of l c x r ≡ Some b)
   unfolding victim_of
   victim_found r x c co chip g f still e =
       by_found (victim_of l c x r)
@@ -220,7 +220,7 @@ module _ (l : Layout) (w : Within l) where
 
   -- one of the M + 1 slots is free
   pub free_slot_lem : (r : ℕ → Record) (co : Collection) → RecordsSound l r co
-      → (i : ℕ) × (lowest_free_slot l r ≡ At i) × (i < M + 1) × ((j : ℕ) → j < S → (r j).slot ≢ i)
+      → (i : ℕ) × (lowest_free_slot l r ≡ Some i) × (i < M + 1) × ((j : ℕ) → j < S → (r j).slot ≢ i)
   unfolding lowest_free_slot
   free_slot_lem r co g =
       by_found (lowest_free_slot l r)
@@ -231,7 +231,7 @@ module _ (l : Layout) (w : Within l) where
 
   -- where a commit is owed there is a stripe to commit, and it is another one
   pub stripe_to_commit : (r : ℕ → Record) (j : ℕ) → commit_owed l r j ≡ true
-      → (k : ℕ) × (cheapest l r ≡ At k) × (k < S) × (slotted r k ≡ true) × (k ≢ j)
+      → (k : ℕ) × (cheapest l r ≡ Some k) × (k < S) × (slotted r k ≡ true) × (k ≢ j)
   unfolding commit_owed cheapest
   stripe_to_commit r j owed =
       let (bare, all) = and_both (not (has_slot (r j))) (eqb (count_below S (slotted r)) M) owed in

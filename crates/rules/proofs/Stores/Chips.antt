@@ -19,8 +19,7 @@ use Rattle.layout.specs.Collection.{Collection}
 use Rattle.layout.proofs.Limits.{blocks_most}
 use Rattle.layout.proofs.Codec.{RecordFits, CollectionFits}
 use Rattle.layout.proofs.Records.{SixMembers}
-use Rattle.layout.proofs.Pages.{same_place, in_own_block, in_other_block, place_in}
-use Rattle.layout.proofs.Pages.{none_fits}
+use Rattle.layout.proofs.Pages.{same_place, in_own_block, in_other_block, place_in, none_fits}
 use Rattle.steps.proofs.View.{wiped, erased_clean}
 use Rattle.rules.specs.Names.{main_number, side_number, names, named}
 use Rattle.rules.specs.Blocks.{clean_in, clean_block}

@@ -19,8 +19,7 @@ use Rattle.rules.specs.Names.{named}
 use Rattle.rules.specs.Open.{due, move_step, repointed}
 use Rattle.rules.proofs.Soundness.Statements.{Usable, RecordSound, ChipSound, Sound, sound_chip}
 use Rattle.rules.proofs.Stores.Kept.{Kept}
-use Rattle.rules.proofs.Stores.Moving.{Moving, new_records, new_slot, new_bitmap, new_chip, new_chip_other, new_sound, new_beyond, new_copies, new_to, new_from}
-use Rattle.rules.proofs.Stores.Moving.{new_name, same_main, same_side, stripe_fits}
+use Rattle.rules.proofs.Stores.Moving.{Moving, new_records, new_slot, new_bitmap, new_chip, new_chip_other, new_sound, new_beyond, new_copies, new_to, new_from, new_name, same_main, same_side, stripe_fits}
 use Rattle.rules.proofs.Stores.Storing.{stripe_view, stripe_collection, sound_records}
 
 module _ (l : Layout) (u : Usable l) (s : Images) (f : Sound l s) where

@@ -25,8 +25,7 @@ use Rattle.rules.proofs.Soundness.Statements.{RecordSound, RecordsSound, Stamped
 use Rattle.rules.proofs.Stores.Kept.{Copies, Same, same_number}
 use Rattle.rules.proofs.Stores.Names.{by_name, main_names, side_names, not_names, named_by, name_named, unnamed_at, named_none, name_stamped, one_stripe}
 use Rattle.rules.proofs.Stores.Twins.{twin_is, is_twin, due_is}
-use Rattle.rules.proofs.Stores.Repoint.{moved_here, moved_other, by_moved, repointed_bitmap, repointed_slot, repointed_main, repointed_side, repointed_other}
-use Rattle.rules.proofs.Stores.Repoint.{repointed_beyond, repointed_sound}
+use Rattle.rules.proofs.Stores.Repoint.{moved_here, moved_other, by_moved, repointed_bitmap, repointed_slot, repointed_main, repointed_side, repointed_other, repointed_beyond, repointed_sound}
 
 -- The records r and the pages x of the chip of a collection in phase 2, where place k of the destination holds a page that is due.
 pub record Moving (l : Layout) (r : ℕ → Record) (x : ℕ → Page) (co : Collection) (k : ℕ) : Type 0 where

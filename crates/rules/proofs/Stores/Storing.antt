@@ -19,15 +19,13 @@ use Rattle.layout.proofs.Codec.{PageFits, length_record, length_collection}
 use Rattle.layout.proofs.Records.{SixMembers}
 use Rattle.layout.proofs.Pages.{page_in_fits}
 use Rattle.steps.specs.Store.{program, erase, slot, stripe, collection, programmed, erased, recorded, apply}
-use Rattle.steps.proofs.View.{wiped, length_programmed, page_programmed, length_erased, page_erased, length_recorded, record_stored, collection_stays}
-use Rattle.steps.proofs.View.{collection_stored, records_stay, length_slotted, slot_stored}
+use Rattle.steps.proofs.View.{wiped, length_programmed, page_programmed, length_erased, page_erased, length_recorded, record_stored, collection_stays, collection_stored, records_stay, length_slotted, slot_stored}
 use Rattle.rules.specs.Names.{main_number, side_number, names, named}
 use Rattle.rules.specs.Blocks.{clean_block}
 use Rattle.rules.specs.Sound.{collecting}
 use Rattle.rules.proofs.Soundness.Statements.{Usable, RecordSound, CollectionSound, RecordsSound, Stamped, OneTwin, ChipSound, Sound, sound_chip}
 use Rattle.rules.proofs.Stores.Names.{main_names, side_names, name_named}
-use Rattle.rules.proofs.Stores.Chips.{record_fits, collection_fits, records_keep, collection_records_keep, program_same, program_keeps, erase_same, erase_keeps}
-use Rattle.rules.proofs.Stores.Chips.{Fillable, CleanBut, record_keeps, collection_keeps}
+use Rattle.rules.proofs.Stores.Chips.{record_fits, collection_fits, records_keep, collection_records_keep, program_same, program_keeps, erase_same, erase_keeps, Fillable, CleanBut, record_keeps, collection_keeps}
 use Rattle.rules.proofs.Stores.Kept.{Copies, CopiesOf, Kept, same_refl, same_number, same_page, no_copies, no_copies_yet}
 
 module _ (l : Layout) where

@@ -1,19 +1,13 @@
-use Prim.Native.Nat.{ℕ}
 use native.Mathlib.Numerals.{add-one}
 use native.Mathlib.Omega.{arith}
 use mathlib.Core.Path.{◌≡◌, sym, ◌∙◌}
-use mathlib.Core.Bool.{Bool}
 use Rattle.ranges.proofs.Looks.{first_start, first_not_here, first_nothing, first_is}
-use Rattle.layout.specs.Layout.{layout_of}
-use Rattle.layout.specs.Page.{page_at}
-use Rattle.rules.specs.Blocks.{clean_block, lowest_clean_block}
+use Rattle.rules.specs.Blocks.{lowest_clean_block}
 use Rattle.space.proofs.Blocks.{first_page, first_tells}
 use Rattle.space.proofs.clean_block_on.Goals as goal
 
 pub loop-b-init : goal.loop-b-init
-loop-b-init c =
-    let isClean : ℕ → Bool = let l = layout_of c.args.g in clean_block l (page_at l c.args.chips.now c.args.c) in
-    (omega arith, first_start isClean)
+loop-b-init c = first_start _
 
 pub overflow_mul-b : goal.overflow_mul-b
 overflow_mul-b c = omega (arith, first_page c.requires c.loop-b.b c.loop-b-test.true)
@@ -24,18 +18,16 @@ is_clean-requires c = let h = c.requires in (h.chips_fit, h.chip, (first_page h 
 pub returns-then-is_clean : goal.returns-then-is_clean
 unfolding lowest_clean_block
 returns-then-is_clean c =
-    let isClean : ℕ → Bool = let l = layout_of c.args.g in clean_block l (page_at l c.args.chips.now c.args.c) in
     let here = first_tells c.requires c.loop-b.b c.loop-b-test.true c.is_clean.ensures ∙ c.if-is_clean.true in
-    sym (first_is c.args.g.b isClean c.loop-b.b c.loop-b-test.true here (first_nothing c.loop-b.b isClean c.loop-b.invariant.1))
+    sym (first_is c.args.g.b _ c.loop-b.b c.loop-b-test.true here (first_nothing c.loop-b.b _ c.loop-b.invariant))
 
 pub loop-b-preserved : goal.loop-b-preserved
 loop-b-preserved c =
-    let isClean : ℕ → Bool = let l = layout_of c.args.g in clean_block l (page_at l c.args.chips.now c.args.c) in
     let here = first_tells c.requires c.loop-b.b c.loop-b-test.true c.is_clean.ensures ∙ c.if-is_clean.false in
-    (omega arith, rw add-one (first_not_here c.loop-b.b isClean c.loop-b.invariant.1 here))
+    rw add-one (first_not_here c.loop-b.b _ c.loop-b.invariant here)
 
 pub returns : goal.returns
 unfolding lowest_clean_block
 returns c =
     let last : c.loop-b.b ≡ c.args.g.b = omega arith in
-    sym (rw last at c.loop-b.invariant.1)
+    sym (rw last at c.loop-b.invariant)

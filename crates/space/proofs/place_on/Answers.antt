@@ -17,7 +17,7 @@ first : (c : goal.In-search) → OnChip c.args.g (c.search.b * c.args.g.k)
 first c = first_page c.requires c.search.b c.search-test.true
 
 pub search-init : goal.search-init
-search-init c = (omega arith, search_start)
+search-init c = search_start
 
 pub overflow_mul-first : goal.overflow_mul-first
 overflow_mul-first c = omega (arith, first c)
@@ -26,7 +26,7 @@ pub is_clean-requires : goal.is_clean-requires
 is_clean-requires c = let h = c.requires in (h.chips_fit, h.chip, (first c).0)
 
 pub overflow_add-clean : goal.overflow_add-clean
-overflow_add-clean c = omega (arith, search_few c.search.invariant.1)
+overflow_add-clean c = omega (arith, search_few c.search.invariant)
 
 pub overflow_add-first : goal.overflow_add-first
 overflow_add-first c =
@@ -47,7 +47,7 @@ pub loop-i-init : goal.loop-i-init
 loop-i-init c =
     let l = layout_of c.args.g in
     let used = sym c.is_clean.ensures ∙ c.if-is_clean.false in
-    (some_places c.requires, begun_inside l (page_at l c.args.chips.now c.args.c) c.search.b used)
+    begun_inside l (page_at l c.args.chips.now c.args.c) c.search.b used
 
 pub overflow_add-first-in-loop-i : goal.overflow_add-first-in-loop-i
 overflow_add-first-in-loop-i c =
@@ -67,49 +67,41 @@ overflow_add-found c =
     place_low c.args.g c.requires.chips_fit.limited c.search.b c.loop-i.i c.search-test.true c.loop-i-test.true in
     omega (arith, place)
 
-pub overflow_add-i : goal.overflow_add-i
-overflow_add-i c =
-    let place : OnChip c.args.g (c.search.b * c.args.g.k + c.loop-i.i) =
-    place_low c.args.g c.requires.chips_fit.limited c.search.b c.loop-i.i c.search-test.true c.loop-i-test.true in
-    omega (arith, place)
-
 pub loop-i-preserved : goal.loop-i-preserved
 loop-i-preserved c =
     let o = c.loop-i in
     let b = c.search.b in
     let a = c.args in
     let l = layout_of a.g in
-    (omega arith, rw add-one (first_not_here o.i (clean_in l (page_at l a.chips.now a.c) b) o.invariant.1 (sym c.is_clean-in-loop-i.ensures ∙ c.if-is_clean-3.false)))
+    rw add-one (first_not_here o.i (clean_in l (page_at l a.chips.now a.c) b) o.invariant (sym c.is_clean-in-loop-i.ensures ∙ c.if-is_clean-3.false))
 
 pub search-preserved : goal.search-preserved
 search-preserved c =
     let o = c.search in
     let l = layout_of c.args.g in
     let low = c.search-test.true in
-    let clean = first_tells c.requires o.b low c.is_clean.ensures in (
-      omega arith,
-      elim c.if-is_clean.branch [
-        | then-is_clean w ↦ rw (w.found-is, w.clean-is, w.lowest-is) (elim w.if-clean-eq0.branch [
-          | then-clean-eq0 v ↦ rw v.lowest-is (search_first o.invariant.1 (clean ∙ w.if-is_clean.true) v.if-clean-eq0.true)
-          | else-clean-eq0 v ↦ rw v.lowest-is (search_later o.invariant.1 (clean ∙ w.if-is_clean.true) v.if-clean-eq0.false)
-        ])
-        | else-is_clean+then-is_clean-2+else-loop-i-test w ↦ room_inside l (page_at l c.args.chips.now c.args.c) o.b (some_places c.requires) (sym w.is_clean-else-is_clean.ensures ∙ w.if-is_clean-2.true) w.loop-i.i w.loop-i.invariant.1 w.loop-i-test.false
-        | else-is_clean+else-is_clean-2 w ↦ rw (w.found-is, w.clean-is, w.lowest-is) (search_full o.invariant.1 (clean ∙ w.if-is_clean.false) (rw (w.if-is_clean.false, w.if-is_clean-2.false) at (open_tells c.requires o.b low c.is_clean.ensures w.is_clean-else-is_clean.ensures)))
-      ],
-    )
+    let clean = first_tells c.requires o.b low c.is_clean.ensures in
+    elim c.if-is_clean.branch [
+      | then-is_clean w ↦ rw (w.found-is, w.clean-is, w.lowest-is) (elim w.if-clean-eq0.branch [
+        | then-clean-eq0 v ↦ rw v.lowest-is (search_first o.invariant (clean ∙ w.if-is_clean.true) v.if-clean-eq0.true)
+        | else-clean-eq0 v ↦ rw v.lowest-is (search_later o.invariant (clean ∙ w.if-is_clean.true) v.if-clean-eq0.false)
+      ])
+      | else-is_clean+then-is_clean-2+else-loop-i-test w ↦ room_inside l (page_at l c.args.chips.now c.args.c) o.b (some_places c.requires) (sym w.is_clean-else-is_clean.ensures ∙ w.if-is_clean-2.true) w.loop-i.i w.loop-i.invariant (omega arith)
+      | else-is_clean+else-is_clean-2 w ↦ rw (w.found-is, w.clean-is, w.lowest-is) (search_full o.invariant (clean ∙ w.if-is_clean.false) (rw (w.if-is_clean.false, w.if-is_clean-2.false) at (open_tells c.requires o.b low c.is_clean.ensures w.is_clean-else-is_clean.ensures)))
+    ]
 
-pub returns-in-At : goal.returns-in-At
-returns-in-At c =
+pub returns-in-Some : goal.returns-in-Some
+returns-in-Some c =
     let answered : let a = c.args in
     let l = layout_of a.g in
     Answered l (page_at l a.chips.now a.c) c.search-test.found c.search.clean c.search.lowest =
     let o = c.search in
     elim c.search-test.branch [
-      | else-search-test w ↦ rw w.found-is (answer_none o.invariant.1 (omega arith))
-      | then-search-test+else-is_clean+then-is_clean-2+then-loop-i-test+then-is_clean-3 w ↦ answer_begun o.invariant.1 w.loop-i.i w.found-is w.search-test.true (rw (w.if-is_clean.false, w.if-is_clean-2.true) at (open_tells c.requires o.b w.search-test.true w.is_clean.ensures w.is_clean-else-is_clean.ensures))
-          w.loop-i-test.true w.loop-i.invariant.1 (sym w.is_clean-in-loop-i.ensures ∙ w.if-is_clean-3.true)
+      | else-search-test w ↦ rw w.found-is (answer_none o.invariant (omega arith))
+      | then-search-test+else-is_clean+then-is_clean-2+then-loop-i-test+then-is_clean-3 w ↦ answer_begun o.invariant w.loop-i.i w.found-is w.search-test.true (rw (w.if-is_clean.false, w.if-is_clean-2.true) at (open_tells c.requires o.b w.search-test.true w.is_clean.ensures w.is_clean-else-is_clean.ensures))
+          w.loop-i-test.true w.loop-i.invariant (sym w.is_clean-in-loop-i.ensures ∙ w.if-is_clean-3.true)
     ] in
-    answered.begun c.in-At.p c.in-At.is
+    answered.begun c.in-Some.p c.in-Some.is
 
 pub returns-then-clean-ge2 : goal.returns-then-clean-ge2
 returns-then-clean-ge2 c =
@@ -118,11 +110,11 @@ returns-then-clean-ge2 c =
     Answered l (page_at l a.chips.now a.c) c.search-test.found c.search.clean c.search.lowest =
     let o = c.search in
     elim c.search-test.branch [
-      | else-search-test w ↦ rw w.found-is (answer_none o.invariant.1 (omega arith))
-      | then-search-test+else-is_clean+then-is_clean-2+then-loop-i-test+then-is_clean-3 w ↦ answer_begun o.invariant.1 w.loop-i.i w.found-is w.search-test.true (rw (w.if-is_clean.false, w.if-is_clean-2.true) at (open_tells c.requires o.b w.search-test.true w.is_clean.ensures w.is_clean-else-is_clean.ensures))
-          w.loop-i-test.true w.loop-i.invariant.1 (sym w.is_clean-in-loop-i.ensures ∙ w.if-is_clean-3.true)
+      | else-search-test w ↦ rw w.found-is (answer_none o.invariant (omega arith))
+      | then-search-test+else-is_clean+then-is_clean-2+then-loop-i-test+then-is_clean-3 w ↦ answer_begun o.invariant w.loop-i.i w.found-is w.search-test.true (rw (w.if-is_clean.false, w.if-is_clean-2.true) at (open_tells c.requires o.b w.search-test.true w.is_clean.ensures w.is_clean-else-is_clean.ensures))
+          w.loop-i-test.true w.loop-i.invariant (sym w.is_clean-in-loop-i.ensures ∙ w.if-is_clean-3.true)
     ] in
-    answered.fresh c.in-Nothing.is c.if-clean-ge2.true
+    answered.fresh c.in-None.is c.if-clean-ge2.true
 
 pub returns-else-clean-ge2 : goal.returns-else-clean-ge2
 returns-else-clean-ge2 c =
@@ -131,8 +123,8 @@ returns-else-clean-ge2 c =
     Answered l (page_at l a.chips.now a.c) c.search-test.found c.search.clean c.search.lowest =
     let o = c.search in
     elim c.search-test.branch [
-      | else-search-test w ↦ rw w.found-is (answer_none o.invariant.1 (omega arith))
-      | then-search-test+else-is_clean+then-is_clean-2+then-loop-i-test+then-is_clean-3 w ↦ answer_begun o.invariant.1 w.loop-i.i w.found-is w.search-test.true (rw (w.if-is_clean.false, w.if-is_clean-2.true) at (open_tells c.requires o.b w.search-test.true w.is_clean.ensures w.is_clean-else-is_clean.ensures))
-          w.loop-i-test.true w.loop-i.invariant.1 (sym w.is_clean-in-loop-i.ensures ∙ w.if-is_clean-3.true)
+      | else-search-test w ↦ rw w.found-is (answer_none o.invariant (omega arith))
+      | then-search-test+else-is_clean+then-is_clean-2+then-loop-i-test+then-is_clean-3 w ↦ answer_begun o.invariant w.loop-i.i w.found-is w.search-test.true (rw (w.if-is_clean.false, w.if-is_clean-2.true) at (open_tells c.requires o.b w.search-test.true w.is_clean.ensures w.is_clean-else-is_clean.ensures))
+          w.loop-i-test.true w.loop-i.invariant (sym w.is_clean-in-loop-i.ensures ∙ w.if-is_clean-3.true)
     ] in
-    answered.nowhere c.in-Nothing.is c.if-clean-ge2.false
+    answered.nowhere c.in-None.is c.if-clean-ge2.false

@@ -1,8 +1,7 @@
 -- The outer loop's invariant: what it has found of the blocks below b. The inner one's: none of the first i places of its block is clean.
 -- That ends before the block does, for the last place is clean.
-use Prim.Native.Nat.{◌-◌, ◌≤◌}
 use mathlib.Core.Path.{◌≡◌}
-use Rattle.ranges.specs.declared.Found.TheVariants.{Nothing}
+use Rattle.std.specs.Prelude.{None}
 use Rattle.ranges.specs.Look.{first_below}
 use Rattle.layout.specs.Layout.{layout_of}
 use Rattle.layout.specs.Page.{page_at}
@@ -11,13 +10,7 @@ use Rattle.space.proofs.Searching.{Searched}
 use Rattle.space.proofs.place_on.Given as goal
 
 abbrev pub invariant-loop-i : goal.invariant-loop-i
-invariant-loop-i l = (l.i ≤ l.g.k) × (first_below l.i (clean_in (layout_of l.g) (page_at (layout_of l.g) l.chips l.c) l.b) ≡ Nothing)
-
-abbrev pub decreases-loop-i : goal.decreases-loop-i
-decreases-loop-i l = l.g.k - l.i
+invariant-loop-i l = first_below l.i (clean_in (layout_of l.g) (page_at (layout_of l.g) l.chips l.c) l.b) ≡ None
 
 abbrev pub invariant-search : goal.invariant-search
-invariant-search l = (l.b ≤ l.g.b) × Searched (layout_of l.g) (page_at (layout_of l.g) l.chips l.c) l.b l.found l.clean l.lowest
-
-abbrev pub decreases-search : goal.decreases-search
-decreases-search l = l.g.b - l.b
+invariant-search l = Searched (layout_of l.g) (page_at (layout_of l.g) l.chips l.c) l.b l.found l.clean l.lowest

@@ -5,9 +5,9 @@ use Rattle.space.specs.Victims.{victim_wanted}
 use Rattle.space.proofs.Victims.{victim_found}
 use Rattle.space.proofs.victim_on.Goals as goal
 
-pub returns-in-At : goal.returns-in-At
+pub returns-in-Some : goal.returns-in-Some
 unfolding victim_wanted when_found
-returns-in-At c = rw (← c.place_on.ensures, c.in-At.is)
+returns-in-Some c = rw (← c.place_on.ensures, c.in-Some.is)
 
 pub returns : goal.returns
 unfolding victim_wanted when_found

@@ -3,7 +3,7 @@ use Prim.Native.Nat.{◌/◌}
 use native.Mathlib.Omega.{arith}
 use Rattle.layout.specs.Layout.{layout_of}
 use Rattle.layout.proofs.Limits.{within}
-use Rattle.spares.proofs.Scanning.{together, stop_some, stop_all}
+use Rattle.spares.proofs.Scanning.{together, stop_some}
 use Rattle.spares.proofs.next_stop.Goals as goal
 
 pub nonzero_div-some : goal.nonzero_div-some
@@ -14,9 +14,3 @@ returns-then-some-blocks c =
     let w = within (layout_of c.args.g) c.requires.0 in
     let h = together c.args.g.k (omega (arith, w.places_low)) w.places_high in
     stop_some c.args.b (128 / c.args.g.k) c.args.g.b c.args.g.k h.1 h.0 c.if-some-blocks.true
-
-pub returns-else-some-blocks : goal.returns-else-some-blocks
-returns-else-some-blocks c =
-    let w = within (layout_of c.args.g) c.requires.0 in
-    let h = together c.args.g.k (omega (arith, w.places_low)) w.places_high in
-    stop_all c.args.b (128 / c.args.g.k) c.args.g.b c.args.g.k h.1 c.requires.1 c.if-some-blocks.false

@@ -5,6 +5,7 @@ use lib.Dec.{lit≤}
 use Rattle.rules.specs.declared.Origin.{Origin}
 use Rattle.rules.specs.declared.Origin.TheVariants.{Unwritten, Direct, Partial, Full}
 use Rattle.rules.specs.declared.Ticket.{Ticket}
+use Rattle.ranges.specs.Look.{when_found}
 use Rattle.rules.specs.Origins.{origin_number, origin_numbered}
 use Rattle.ticket_log.specs.Walks.{held_by}
 use borrow.Author.Rules.{rules}
@@ -18,16 +19,18 @@ numbered Partial = (lit≤ tt, refl)
 numbered Full = (lit≤ tt, refl)
 
 pub ticket_in-t-requires : goal.ticket_in-t-requires
-ticket_in-t-requires c = c.requires c.if-shown.true
+ticket_in-t-requires c = c.requires c.in-Some.i c.in-Some.is
 
 pub overflow_cast-number : goal.overflow_cast-number
 overflow_cast-number c = search (rules, (numbered c.args.origin).0)
 
-pub returns-then-shown : goal.returns-then-shown
-returns-then-shown c =
+pub returns-in-Some : goal.returns-in-Some
+unfolding when_found
+returns-in-Some c =
     let a = c.args in
     let is = ap (λ (n : ℕ). origin_numbered n) c.origin_number-number.ensures ∙ (numbered a.origin).1 in
-    rw c.if-shown.true (ap₂ (λ (t : Ticket) (o : Origin). held_by t o) c.ticket_in-t.ensures is)
+    rw c.in-Some.is (ap₂ (λ (t : Ticket) (o : Origin). held_by t o) c.ticket_in-t.ensures is)
 
-pub returns : goal.returns
-returns c = rw c.if-shown.false
+pub returns-in-None : goal.returns-in-None
+unfolding when_found
+returns-in-None c = rw c.in-None.is

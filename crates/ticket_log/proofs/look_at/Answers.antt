@@ -22,14 +22,14 @@ returns-then-all_plain c =
 pub loop-i-init : goal.loop-i-init
 loop-i-init c =
     let a = c.args in
-    (omega arith, seen_none (tickets_in a.page.now) a.lot a.bag)
+    seen_none (tickets_in a.page.now) a.lot a.bag
 
 pub returns-then-not-is_sound : goal.returns-then-not-is_sound
 returns-then-not-is_sound c =
     let is = c.ticket_in-t.ensures in
     record {
-      seen = c.loop-i.invariant.1;
-      few = c.loop-i.invariant.0;
+      seen = rw c.then_some.ensures c.loop-i.invariant;
+      few = omega arith;
       next = λ h. ap ticket_sound (sym is) ∙ sym c.is_sound.ensures ∙ not-true _ c.if-not-is_sound.true-raw;
       ends = λ h. ap (λ (t : Ticket). is_empty t) is;
       over = λ h. absurd (omega arith);
@@ -37,14 +37,7 @@ returns-then-not-is_sound c =
 
 pub loop-i-preserved : goal.loop-i-preserved
 loop-i-preserved c =
-    let a = c.args in (
-      omega arith,
-      rw (c.pick-later.ensures, c.is_for-fits.ensures, c.ticket_in-t.ensures)
-          (seen_more (tickets_in a.page.now) a.lot a.bag c.loop-i.invariant.1
-          (ap ticket_sound (sym c.ticket_in-t.ensures) ∙ sym c.is_sound.ensures ∙ not-false _ c.if-not-is_sound.false-raw)),
-    )
-
-pub returns : goal.returns
-returns c =
-    let h = c.loop-i.invariant in
-    record { seen = h.1; few = h.0; next = λ b. absurd (omega arith); ends = λ b. absurd (omega arith); over = λ b. refl }
+    let a = c.args in
+    rw (c.pick-later.ensures, c.is_for-fits.ensures, c.ticket_in-t.ensures)
+    (seen_more (tickets_in a.page.now) a.lot a.bag _ _ c.loop-i.invariant
+    (ap ticket_sound (sym c.ticket_in-t.ensures) ∙ sym c.is_sound.ensures ∙ not-false _ c.if-not-is_sound.false-raw))

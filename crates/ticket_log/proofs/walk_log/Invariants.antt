@@ -9,7 +9,9 @@ use Rattle.ticket_log.proofs.Walking.{Going}
 use Rattle.ticket_log.proofs.walk_log.Given as goal
 
 abbrev pub invariant-loop-at : goal.invariant-loop-at
-invariant-loop-at l = (length l.work ≡ l.g.w) × (l.at ≡ position_of (layout_of l.g) l.at.page) × Going (layout_of l.g) (images l.chips l.records l.slots) l.lost l.lot l.bag l.latest l.greatest l.reads l.at.page
+invariant-loop-at l =
+    let v = l.view in
+    (length l.work ≡ v.g.w) × (l.at ≡ position_of (layout_of v.g) l.at.page) × Going (layout_of v.g) (images v.chips.now v.records.now v.slots.now) l.lost l.lot l.bag l.latest l.greatest l.reads l.at.page
 
 abbrev pub decreases-loop-at : goal.decreases-loop-at
 decreases-loop-at l = l.pages - l.at.page

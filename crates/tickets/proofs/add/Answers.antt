@@ -1,98 +1,82 @@
 -- Refused by its rows, or what `append` runs.
-use Prim.Native.Nat.{ℕ, ◌-◌, ◌≤◌}
+use Prim.Native.Nat.{ℕ}
 use native.Mathlib.Omega.{arith}
-use mathlib.Core.Path.{◌≡◌, refl, sym, ap, ◌∙◌}
-use mathlib.Core.List.{List, ◌++◌}
-use borrow.Author.Tests.{not-true, not-false}
-use lib.ListN.{length, take, drop, replicate}
+use mathlib.Core.Path.{refl, sym, ap, ◌∙◌}
+use mathlib.Core.List.{List}
+use lib.ListN.{length}
+use Rattle.std.specs.Result.{result_ok}
 use Rattle.octets.proofs.Work.{front_long, front_back}
-use Rattle.layout.specs.Layout.{layout_of}
-use Rattle.layout.specs.Images.{Images}
 use Rattle.steps.specs.Allowance.{images}
-use Rattle.rules.specs.Refusals.{checked, settled_rows}
-use Rattle.tickets.proofs.Results.{free_rows, given_rows, AddReady, add_told, add_ready, add_refused, add_broken, add_full, end_inside, add_ran}
+use Rattle.looks.proofs.Passing.{turned_back, look_refused, look_passed}
+use Rattle.tickets.proofs.Results.{add_ready, add_first, add_second, add_broken, add_full, end_inside, add_ran}
 use Rattle.tickets.proofs.add.Goals as goal
 
-pub returns-in-Failed : goal.returns-in-Failed
-returns-in-Failed c =
-    let lent : Images = images c.args.chips.now c.args.records.now c.args.slots.now in
-    let told : let a = c.args in
-    c.given_check-check.result ≡ checked ((settled_rows (layout_of a.g) lent a.lost ++ free_rows a.ticket.now a.lost) ++ given_rows a.ticket.now) =
-    let a = c.args in
-    add_told a.g lent a.lost a.ticket.now c.settled_look-look.ensures c.given_check-check.ensures in
-    add_refused _ _ _ _ _ c.in-Failed.r (sym told ∙ c.in-Failed.is)
+pub returns-in_err-look : goal.returns-in_err-look
+returns-in_err-look c =
+    let s = images c.args.chips.now c.args.records.now c.args.slots.now in
+    rw (turned_back _ c.from_residual.ensures.1) (add_first _ s _ _ _ (look_refused _ s _ c.settled_look.ensures c.in_err-look.was))
+
+pub returns-in_err-given_check : goal.returns-in_err-given_check
+returns-in_err-given_check c =
+    let s = images c.args.chips.now c.args.records.now c.args.slots.now in
+    let top = look_passed _ s _ c.settled_look.ensures c.in_ok-look.was in
+    rw (turned_back _ c.from_residual-in_err-given_check.ensures.1) (add_second _ s _ _ _ top (sym c.given_check.ensures ∙ c.in_err-given_check.was))
 
 pub slice_bounds-page-end : goal.slice_bounds-page-end
 slice_bounds-page-end c =
-    let lent : Images = images c.args.chips.now c.args.records.now c.args.slots.now in
-    let told : let a = c.args in
-    c.given_check-check.result ≡ checked ((settled_rows (layout_of a.g) lent a.lost ++ free_rows a.ticket.now a.lost) ++ given_rows a.ticket.now) =
-    let a = c.args in
-    add_told a.g lent a.lost a.ticket.now c.settled_look-look.ensures c.given_check-check.ensures in
-    let passed : AddReady c.args.g lent c.args.lost c.args.ticket.now c.settled_look-look.result =
-    add_ready _ _ _ _ c.settled_look-look.ensures told c.in_default.is in
-    passed.fit.within_limits.bytes_high
+    let s = images c.args.chips.now c.args.records.now c.args.slots.now in
+    let h = add_ready c.args.g s _ c.args.ticket.now c.settled_look.ensures c.in_ok-look.was c.given_check.ensures c.in_ok-given_check.was in
+    h.fit.within_limits.bytes_high
 
-pub walk_log-log-requires : goal.walk_log-log-requires
-walk_log-log-requires c =
-    let lent : Images = images c.args.chips.now c.args.records.now c.args.slots.now in
-    let told : let a = c.args in
-    c.given_check-check.result ≡ checked ((settled_rows (layout_of a.g) lent a.lost ++ free_rows a.ticket.now a.lost) ++ given_rows a.ticket.now) =
-    let a = c.args in
-    add_told a.g lent a.lost a.ticket.now c.settled_look-look.ensures c.given_check-check.ensures in
-    let passed : AddReady c.args.g lent c.args.lost c.args.ticket.now c.settled_look-look.result =
-    add_ready _ _ _ _ c.settled_look-look.ensures told c.in_default.is in
-    let h = passed.fit in
-    (h.fit.chips, h.fit.records, h.fit.slots, front_long _ 4096 h.within_limits.bytes_high, h.stripe)
+pub invariant_of-view : goal.invariant_of-view
+invariant_of-view c =
+    let s = images c.args.chips.now c.args.records.now c.args.slots.now in
+    let fit = (add_ready c.args.g s _ c.args.ticket.now c.settled_look.ensures c.in_ok-look.was c.given_check.ensures c.in_ok-given_check.was).fit.fit in
+    record { chips_fit = fit.chips; records_fit = fit.records; slots_fit = fit.slots }
 
-pub returns-then-not-log : goal.returns-then-not-log
-returns-then-not-log c =
-    let lent : Images = images c.args.chips.now c.args.records.now c.args.slots.now in
-    let told : let a = c.args in
-    c.given_check-check.result ≡ checked ((settled_rows (layout_of a.g) lent a.lost ++ free_rows a.ticket.now a.lost) ++ given_rows a.ticket.now) =
-    let a = c.args in
-    add_told a.g lent a.lost a.ticket.now c.settled_look-look.ensures c.given_check-check.ensures in
-    let passed : AddReady c.args.g lent c.args.lost c.args.ticket.now c.settled_look-look.result =
-    add_ready _ _ _ _ c.settled_look-look.ensures told c.in_default.is in
-    add_broken _ _ _ _ _ passed 0 0 c.walk_log-log.ensures.tells (not-true _ c.if-not-log.true)
+pub walk_log-requires : goal.walk_log-requires
+walk_log-requires c =
+    let s = images c.args.chips.now c.args.records.now c.args.slots.now in
+    let h = (add_ready c.args.g s _ c.args.ticket.now c.settled_look.ensures c.in_ok-look.was c.given_check.ensures c.in_ok-given_check.was).fit in
+    (front_long _ 4096 h.within_limits.bytes_high, h.stripe)
+
+pub returns-in_err-log : goal.returns-in_err-log
+returns-in_err-log c =
+    let s = images c.args.chips.now c.args.records.now c.args.slots.now in
+    let h = add_ready c.args.g s _ c.args.ticket.now c.settled_look.ensures c.in_ok-look.was c.given_check.ensures c.in_ok-given_check.was in
+    rw (turned_back _ c.from_residual-in_err-log.ensures.1)
+    (add_broken _ s _ _ _ h 0 0 c.walk_log.ensures.tells c.ok_or.ensures.value c.in_err-log.was)
+
+pub returns-in_err-t : goal.returns-in_err-t
+returns-in_err-t c =
+    let s = images c.args.chips.now c.args.records.now c.args.slots.now in
+    let h = add_ready c.args.g s _ c.args.ticket.now c.settled_look.ensures c.in_ok-look.was c.given_check.ensures c.in_ok-given_check.was in
+    let sound = c.ok_or.ensures.ok_part ∙ ap result_ok c.in_ok-log.was in
+    rw (turned_back _ c.from_residual-in_err-t.ensures.1)
+    (add_full _ s _ _ _ h 0 0 c.walk_log.ensures.tells sound c.ok_or-2.ensures.value c.in_err-t.was)
 
 pub start_after-p-requires : goal.start_after-p-requires
-start_after-p-requires c = omega (arith, c.walk_log-log.ensures.few)
+start_after-p-requires c = omega (arith, c.walk_log.ensures.few _ (c.ok_or.ensures.ok_part ∙ ap result_ok c.in_ok-log.was))
 
-pub slice_bounds-page-end-in-At : goal.slice_bounds-page-end-in-At
-slice_bounds-page-end-in-At c =
-    let lent : Images = images c.args.chips.now c.args.records.now c.args.slots.now in
-    let told : let a = c.args in
-    c.given_check-check.result ≡ checked ((settled_rows (layout_of a.g) lent a.lost ++ free_rows a.ticket.now a.lost) ++ given_rows a.ticket.now) =
-    let a = c.args in
-    add_told a.g lent a.lost a.ticket.now c.settled_look-look.ensures c.given_check-check.ensures in
-    let passed : AddReady c.args.g lent c.args.lost c.args.ticket.now c.settled_look-look.result =
-    add_ready _ _ _ _ c.settled_look-look.ensures told c.in_default.is in
-    let front : let w = c.args.g.w in
-    let page = c.walk_log-log.new.work ++ drop (w - 0) (replicate 4096 0) in
-    (w ≤ length page) × (take (w - 0) page ≡ c.walk_log-log.new.work) =
-    front_back c.args.g.w 4096 passed.fit.within_limits.bytes_high c.walk_log-log.auto.work refl in
+pub slice_bounds-page-end-2 : goal.slice_bounds-page-end-2
+slice_bounds-page-end-2 c =
+    let s = images c.args.chips.now c.args.records.now c.args.slots.now in
+    let h = add_ready c.args.g s _ c.args.ticket.now c.settled_look.ensures c.in_ok-look.was c.given_check.ensures c.in_ok-given_check.was in
+    let front = front_back c.args.g.w 4096 h.fit.within_limits.bytes_high c.walk_log.auto.work refl in
     front.0
 
 pub append-requires : goal.append-requires
 append-requires c =
-    let lent : Images = images c.args.chips.now c.args.records.now c.args.slots.now in
-    let told : let a = c.args in
-    c.given_check-check.result ≡ checked ((settled_rows (layout_of a.g) lent a.lost ++ free_rows a.ticket.now a.lost) ++ given_rows a.ticket.now) =
-    let a = c.args in
-    add_told a.g lent a.lost a.ticket.now c.settled_look-look.ensures c.given_check-check.ensures in
-    let passed : AddReady c.args.g lent c.args.lost c.args.ticket.now c.settled_look-look.result =
-    add_ready _ _ _ _ c.settled_look-look.ensures told c.in_default.is in
-    let front : let w = c.args.g.w in
-    let page = c.walk_log-log.new.work ++ drop (w - 0) (replicate 4096 0) in
-    (w ≤ length page) × (take (w - 0) page ≡ c.walk_log-log.new.work) =
-    front_back c.args.g.w 4096 passed.fit.within_limits.bytes_high c.walk_log-log.auto.work refl in
-    let h = passed in
+    let s = images c.args.chips.now c.args.records.now c.args.slots.now in
+    let h = add_ready c.args.g s _ c.args.ticket.now c.settled_look.ensures c.in_ok-look.was c.given_check.ensures c.in_ok-given_check.was in
+    let front = front_back c.args.g.w 4096 h.fit.within_limits.bytes_high c.walk_log.auto.work refl in
+    let sound = c.ok_or.ensures.ok_part ∙ ap result_ok c.in_ok-log.was in
+    let end = c.ok_or-2.ensures.ok_part ∙ ap result_ok c.in_ok-t.was in
     let store = h.ready.store in (
       store.settled,
       store.slots_fit,
-      ap (λ (xs : List ℕ). length xs) front.1 ∙ c.walk_log-log.auto.work ∙ front_long _ 4096 h.fit.within_limits.bytes_high,
-      end_inside _ _ _ _ c.args.allowance h 0 0 c.walk_log-log.ensures.tells (not-false _ c.if-not-log.false) c.in-At.t c.in-At.is,
+      ap (λ (xs : List ℕ). length xs) front.1 ∙ c.walk_log.auto.work ∙ front_long _ 4096 h.fit.within_limits.bytes_high,
+      end_inside _ s _ _ c.args.allowance h 0 0 c.walk_log.ensures.tells sound _ end,
       h.whole,
       c.start_after-p.ensures.1,
       h.ready.known,
@@ -100,26 +84,11 @@ append-requires c =
       h.fit.stripe,
     )
 
-pub returns-in-At : goal.returns-in-At
-returns-in-At c =
-    let lent : Images = images c.args.chips.now c.args.records.now c.args.slots.now in
-    let told : let a = c.args in
-    c.given_check-check.result ≡ checked ((settled_rows (layout_of a.g) lent a.lost ++ free_rows a.ticket.now a.lost) ++ given_rows a.ticket.now) =
-    let a = c.args in
-    add_told a.g lent a.lost a.ticket.now c.settled_look-look.ensures c.given_check-check.ensures in
-    let passed : AddReady c.args.g lent c.args.lost c.args.ticket.now c.settled_look-look.result =
-    add_ready _ _ _ _ c.settled_look-look.ensures told c.in_default.is in
+pub returns : goal.returns
+returns c =
+    let s = images c.args.chips.now c.args.records.now c.args.slots.now in
+    let h = add_ready c.args.g s _ c.args.ticket.now c.settled_look.ensures c.in_ok-look.was c.given_check.ensures c.in_ok-given_check.was in
+    let sound = c.ok_or.ensures.ok_part ∙ ap result_ok c.in_ok-log.was in
+    let end = c.ok_or-2.ensures.ok_part ∙ ap result_ok c.in_ok-t.was in
     rw c.answer.ensures
-    (add_ran _ _ _ _ _ passed 0 0 c.walk_log-log.ensures.tells (not-false _ c.if-not-log.false) c.in-At.t c.in-At.is
-    c.start_after-p.ensures.0 c.append.ensures)
-
-pub returns-in-Nothing : goal.returns-in-Nothing
-returns-in-Nothing c =
-    let lent : Images = images c.args.chips.now c.args.records.now c.args.slots.now in
-    let told : let a = c.args in
-    c.given_check-check.result ≡ checked ((settled_rows (layout_of a.g) lent a.lost ++ free_rows a.ticket.now a.lost) ++ given_rows a.ticket.now) =
-    let a = c.args in
-    add_told a.g lent a.lost a.ticket.now c.settled_look-look.ensures c.given_check-check.ensures in
-    let passed : AddReady c.args.g lent c.args.lost c.args.ticket.now c.settled_look-look.result =
-    add_ready _ _ _ _ c.settled_look-look.ensures told c.in_default.is in
-    add_full _ _ _ _ _ passed 0 0 c.walk_log-log.ensures.tells (not-false _ c.if-not-log.false) c.in-Nothing.is
+    (add_ran _ s _ _ _ h 0 0 c.walk_log.ensures.tells sound _ end c.start_after-p.ensures.0 c.append.ensures)

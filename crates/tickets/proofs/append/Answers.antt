@@ -39,6 +39,9 @@ nonzero_rem-m c =
     let inside : Within layout = within layout c.requires.0.checked.chips_fit.limited in
     omega (arith, inside.members_low)
 
+pub invariant_of-view : goal.invariant_of-view
+invariant_of-view c = let fit = c.requires.0.checked in record { chips_fit = fit.chips_fit; records_fit = fit.records_pass.fit; slots_fit = c.requires.1 }
+
 pub fetch_member-got-requires : goal.fetch_member-got-requires
 fetch_member-got-requires c =
     let layout : Layout = layout_of c.args.g in
@@ -46,9 +49,8 @@ fetch_member-got-requires c =
     let page : ℕ = falls_in layout c.args.t in
     let some : 0 < per_page layout = omega (arith, inside.bytes_low) in
     let page_fits : page < c.args.g.n * c.args.g.s = (div-lt_iff_lt-mul some).1 c.requires.3 in
-    let fit = c.requires.0.checked in
     let stripe = stripe_fits layout inside page page_fits in
-    (fit.chips_fit, fit.records_pass.fit, c.requires.1, c.requires.2, stripe, member_fits layout inside page, c.requires.8 _ stripe)
+    (c.requires.2, stripe, member_fits layout inside page, c.requires.8 _ stripe)
 
 pub nonzero_rem-t : goal.nonzero_rem-t
 nonzero_rem-t c =

@@ -4,4 +4,4 @@ use Rattle.vazhettu.specs.Reports.{reported_of}
 use Rattle.vazhettu.proofs.vazhettu_add.Goals as goal
 
 pub returns : goal.returns
-returns c = rw c.report_of.ensures (ap reported_of c.add.ensures)
+returns c = rw c.from.ensures (ap reported_of c.add.ensures)

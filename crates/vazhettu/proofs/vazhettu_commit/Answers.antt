@@ -4,4 +4,4 @@ use Rattle.vazhettu.specs.Reports.{reported_of}
 use Rattle.vazhettu.proofs.vazhettu_commit.Goals as goal
 
 pub returns : goal.returns
-returns c = rw c.report_of.ensures (ap reported_of c.commit.ensures)
+returns c = rw c.from.ensures (ap reported_of c.commit.ensures)

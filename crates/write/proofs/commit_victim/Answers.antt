@@ -16,10 +16,10 @@ offset_bounds-scans-parity_chip c = omega (arith, seven c)
 pub bounds-scans-parity_chip : goal.bounds-scans-parity_chip
 bounds-scans-parity_chip c = seven c
 
-pub returns-in-At : goal.returns-in-At
+pub returns-in-Some : goal.returns-in-Some
 unfolding when_found
-returns-in-At c = rw c.in-At.is (victim_at c.args.scans c.victim_in.ensures c.parity_chip.ensures.0)
+returns-in-Some c = rw c.in-Some.is (victim_at c.args.scans c.victim_in.ensures c.parity_chip.ensures.0)
 
-pub returns-in-Nothing : goal.returns-in-Nothing
+pub returns-in-None : goal.returns-in-None
 unfolding when_found
-returns-in-Nothing c = rw c.in-Nothing.is
+returns-in-None c = rw c.in-None.is

@@ -1,9 +1,5 @@
 -- Room on the member's chip, then the place, then what a write stores there.
 use mathlib.Core.Path.{refl, sym, ◌∙◌}
-use Rattle.layout.specs.Layout.{layout_of}
-use Rattle.steps.specs.Allowance.{Ran, images}
-use Rattle.rules.specs.Room.{room_steps}
-use Rattle.rules.specs.Partial.{write_at}
 use Rattle.names.proofs.Statements.{stamps_pass}
 use Rattle.space.specs.Victims.{VictimFor}
 use Rattle.space.proofs.Victims.{victim_wanted_lem}
@@ -32,39 +28,21 @@ make_room-run-requires c =
 
 pub returns-then-run : goal.returns-then-run
 returns-then-run c =
-    let made : let a = c.args in
-    let l = layout_of a.g in
-    let s = images a.chips.now a.records.now a.slots.now in
-    Ran l a.p (room_steps l c.member_chip-c.result s) c.make_room-run.result s
-    (images c.make_room-run.new.chips c.make_room-run.new.records a.slots.now) =
-    c.make_room-run.ensures in
-    let a = c.args in
+    let h = c.requires in
     let on = c.member_chip-c.ensures in
-    let fill = write_at (layout_of a.g) a.j a.m a.bytes.now in
-    placed_on (layout_of a.g) on.0 fill (placed_cut c.requires.0 c.requires.1 on.1 made fill c.if-run.true)
+    placed_on _ on.0 _ (placed_cut h.0 h.1 on.1 c.make_room-run.ensures _ c.if-run.true)
 
 pub place_on-requires : goal.place_on-requires
 place_on-requires c =
-    let made : let a = c.args in
-    let l = layout_of a.g in
-    let s = images a.chips.now a.records.now a.slots.now in
-    Ran l a.p (room_steps l c.member_chip-c.result s) c.make_room-run.result s
-    (images c.make_room-run.new.chips c.make_room-run.new.records a.slots.now) =
-    c.make_room-run.ensures in
     let h = c.requires in
     let low = c.member_chip-c.ensures.1 in
-    ordered (room_settled h.0 h.1 low made c.if-run.false).checked low
+    ordered (room_settled h.0 h.1 low c.make_room-run.ensures c.if-run.false).checked low
 
 pub write_at-requires : goal.write_at-requires
 write_at-requires c =
-    let made : let a = c.args in
-    let l = layout_of a.g in
-    let s = images a.chips.now a.records.now a.slots.now in
-    Ran l a.p (room_steps l c.member_chip-c.result s) c.make_room-run.result s
-    (images c.make_room-run.new.chips c.make_room-run.new.records a.slots.now) =
-    c.make_room-run.ensures in
     let h = c.requires in
     let low = c.member_chip-c.ensures.1 in
+    let made = c.make_room-run.ensures in
     let going = c.if-run.false in
     let r = room_settled h.0 h.1 low made going in (
       r.checked.chips_fit,
@@ -74,36 +52,20 @@ write_at-requires c =
       h.3,
       h.4,
       h.5,
-      place_fits r low (sym c.place_on.ensures ∙ c.in-At.is),
+      place_fits r low (sym c.place_on.ensures ∙ c.in-Some.is),
       record_passes r h.3,
       made.sane,
       h.8 ∙ sym (room_free h.0 h.1 low made going),
     )
 
-pub returns-in-At : goal.returns-in-At
-returns-in-At c =
-    let made : let a = c.args in
-    let l = layout_of a.g in
-    let s = images a.chips.now a.records.now a.slots.now in
-    Ran l a.p (room_steps l c.member_chip-c.result s) c.make_room-run.result s
-    (images c.make_room-run.new.chips c.make_room-run.new.records a.slots.now) =
-    c.make_room-run.ensures in
-    let a = c.args in
+pub returns-in-Some : goal.returns-in-Some
+returns-in-Some c =
+    let h = c.requires in
     let on = c.member_chip-c.ensures in
-    let fill = write_at (layout_of a.g) a.j a.m a.bytes.now in
-    placed_on (layout_of a.g) on.0 fill
-    (placed_at c.requires.0 c.requires.1 on.1 made fill (sym c.place_on.ensures ∙ c.in-At.is) c.write_at.ensures)
+    placed_on _ on.0 _ (placed_at h.0 h.1 on.1 c.make_room-run.ensures _ (sym c.place_on.ensures ∙ c.in-Some.is) c.write_at.ensures)
 
-pub returns-in-Nothing : goal.returns-in-Nothing
-returns-in-Nothing c =
-    let made : let a = c.args in
-    let l = layout_of a.g in
-    let s = images a.chips.now a.records.now a.slots.now in
-    Ran l a.p (room_steps l c.member_chip-c.result s) c.make_room-run.result s
-    (images c.make_room-run.new.chips c.make_room-run.new.records a.slots.now) =
-    c.make_room-run.ensures in
-    let a = c.args in
+pub returns-in-None : goal.returns-in-None
+returns-in-None c =
+    let h = c.requires in
     let on = c.member_chip-c.ensures in
-    let fill = write_at (layout_of a.g) a.j a.m a.bytes.now in
-    placed_on (layout_of a.g) on.0 fill
-    (placed_nowhere c.requires.0 c.requires.1 on.1 made fill (sym c.place_on.ensures ∙ c.in-Nothing.is))
+    placed_on _ on.0 _ (placed_nowhere h.0 h.1 on.1 c.make_room-run.ensures _ (sym c.place_on.ensures ∙ c.in-None.is))

@@ -1,4 +1,4 @@
--- Nothing is owed, or a commit is made first; then the write itself, with the victim and the free slot that are known; after a commit
+-- None is owed, or a commit is made first; then the write itself, with the victim and the free slot that are known; after a commit
 -- the victim is looked for anew, and the free slot is the one that it leaves.
 use Prim.Native.Nat.{◌<◌}
 use native.Mathlib.Omega.{arith}

@@ -7,9 +7,10 @@ use Rattle.layout.proofs.Rows.{empty_bytes}
 use Rattle.codec.proofs.Fills.{firsts_none, firsts_more}
 use Rattle.codec.proofs.Offsets.{record_within}
 use Rattle.codec.proofs.put.put_empty_records.Goals as goal
+use Rattle.codec.proofs.put.put_empty_records.Goals.{In-loop-j}
 
 -- the record ends within the image
-fits : (c : goal.In-loop-j) → c.loop-j.j * 32 + 32 ≤ length c.loop-j.records
+fits : (c : In-loop-j) → c.loop-j.j * 32 + 32 ≤ length c.loop-j.records
 fits c = rw c.loop-j.invariant.same (record_within c.args.g c.args.records.now c.requires.0 c.loop-j.j (omega arith))
 
 pub loop-j-init : goal.loop-j-init
@@ -27,7 +28,5 @@ slice_bounds-copy-end c = omega (arith, fits c)
 pub loop-j-preserved : goal.loop-j-preserved
 unfolding unit_put put
 loop-j-preserved c =
-    let fits : c.loop-j.j * 32 + 32 ≤ length c.loop-j.records =
-    rw c.loop-j.invariant.same (record_within c.args.g c.args.records.now c.requires.0 c.loop-j.j (omega arith)) in
     let e = empty_bytes c.args.g in
-    firsts_more c.loop-j.invariant (omega arith) (rw e refl) fits (rw (e, c.copy.ensures, add-sub_cancel_left))
+    firsts_more c.loop-j.invariant (omega arith) (rw e refl) (fits (goal.at.loop-j-preserved c).In-loop-j) (rw (e, c.copy.ensures, add-sub_cancel_left))

@@ -1,30 +1,19 @@
 -- The part that is lent is the record, and comes back as its bytes.
-use Prim.Native.Nat.{◌+◌, ◌*◌, ◌≤◌}
 use native.Mathlib.Nat.{add-sub_cancel_left}
 use native.Mathlib.Omega.{arith}
-use lib.ListN.{length}
 use Rattle.octets.specs.Units.{put, unit_put}
 use Rattle.steps.specs.Store.{recorded}
 use Rattle.codec.proofs.Offsets.{record_within}
 use Rattle.codec.proofs.put.put_record.Goals as goal
 
 pub overflow_mul-a : goal.overflow_mul-a
-overflow_mul-a c =
-    let fits : c.args.j * 32 + 32 ≤ length c.args.records.now =
-    record_within c.args.g c.args.records.now c.requires.0 c.args.j (omega arith) in
-    omega (arith, fits)
+overflow_mul-a c = omega (arith, record_within c.args.g c.args.records.now c.requires.0 c.args.j (omega arith))
 
 pub overflow_add-e : goal.overflow_add-e
-overflow_add-e c =
-    let fits : c.args.j * 32 + 32 ≤ length c.args.records.now =
-    record_within c.args.g c.args.records.now c.requires.0 c.args.j (omega arith) in
-    omega (arith, fits)
+overflow_add-e c = omega (arith, record_within c.args.g c.args.records.now c.requires.0 c.args.j (omega arith))
 
 pub slice_bounds-fill_record-end : goal.slice_bounds-fill_record-end
-slice_bounds-fill_record-end c =
-    let fits : c.args.j * 32 + 32 ≤ length c.args.records.now =
-    record_within c.args.g c.args.records.now c.requires.0 c.args.j (omega arith) in
-    omega (arith, fits)
+slice_bounds-fill_record-end c = omega (arith, record_within c.args.g c.args.records.now c.requires.0 c.args.j (omega arith))
 
 pub returns : goal.returns
 unfolding recorded unit_put put

@@ -6,11 +6,11 @@ use Rattle.codec.proofs.scan.all_written.Goals as goal
 
 pub loop-i-init : goal.loop-i-init
 unfolding all_below
-loop-i-init c = (omega arith, refl)
+loop-i-init c = refl
 
 pub loop-i-preserved : goal.loop-i-preserved
 unfolding all_below
-loop-i-preserved c = (omega arith, rw (add-one, c.loop-i.invariant.1, c.number_at-x.ensures.0))
+loop-i-preserved c = rw (add-one, c.loop-i.invariant, c.number_at-x.ensures.0)
 
 pub returns : goal.returns
-returns c = let all : c.loop-i.i ≡ 8 = omega arith in rw all at c.loop-i.invariant.1
+returns c = let all : c.loop-i.i ≡ 8 = omega arith in rw all at c.loop-i.invariant

@@ -1,13 +1,10 @@
-use Prim.Native.Nat.{◌<◌}
+-- Members are at most six, so that each has a place among the eight.
 use native.Mathlib.Omega.{arith}
-use mathlib.Core.Path.{◌≡◌}
+use mathlib.Core.Path.{sym}
+use lib.Seq.{length-take-le}
 use Rattle.codec.proofs.Sizes.{bounded}
-use Rattle.codec.proofs.Tops.{tops_none, tops_more}
+use Rattle.codec.proofs.Tops.{tops_filled}
 use Rattle.codec.proofs.scan.ranges.Goals as goal
-
--- a member has a place among the eight
-member : (c : goal.In-loop-m) → c.loop-m.m < 8
-member c = omega (arith, bounded c.args.g c.requires)
 
 pub overflow_mul-pages : goal.overflow_mul-pages
 overflow_mul-pages c = omega (arith, bounded c.args.g c.requires)
@@ -15,20 +12,11 @@ overflow_mul-pages c = omega (arith, bounded c.args.g c.requires)
 pub overflow_cast-pages : goal.overflow_cast-pages
 overflow_cast-pages c = omega (arith, bounded c.args.g c.requires)
 
-pub loop-m-init : goal.loop-m-init
-loop-m-init c = (omega arith, tops_none)
+pub slice_bounds-tops-end : goal.slice_bounds-tops-end
+slice_bounds-tops-end c = omega (arith, bounded c.args.g c.requires)
 
-pub offset_bounds-tops-m : goal.offset_bounds-tops-m
-offset_bounds-tops-m c = omega (arith, member c)
-
-pub bounds-tops-m : goal.bounds-tops-m
-bounds-tops-m c = member c
-
-pub overflow_add-m : goal.overflow_add-m
-overflow_add-m c = omega (arith, member c)
-
-pub loop-m-preserved : goal.loop-m-preserved
-loop-m-preserved c = (omega arith, tops_more c.loop-m.invariant.1 (member c))
+pub slice_bounds-fill-end : goal.slice_bounds-fill-end
+slice_bounds-fill-end c = sym (length-take-le c.args.g.n _ (omega (arith, bounded c.args.g c.requires)))
 
 pub returns : goal.returns
-returns c = let all : c.loop-m.m ≡ c.args.g.n = omega arith in rw all at c.loop-m.invariant.1
+returns c = tops_filled (omega (arith, bounded c.args.g c.requires)) (c.fill.ensures.after (λ y e. e))

@@ -1,5 +1,4 @@
 -- The tests are those of the definition, each where the ones before it have not decided.
-use native.Mathlib.Omega.{arith}
 use borrow.Author.Tests.{eq-eqb, ne_eqb}
 use Rattle.spares.specs.Scans.{has_number}
 use Rattle.spares.proofs.block.has_number.Goals as goal
@@ -7,9 +6,6 @@ use Rattle.spares.proofs.block.has_number.Goals as goal
 pub returns-then-i-eq-NO_INDEX : goal.returns-then-i-eq-NO_INDEX
 unfolding has_number
 returns-then-i-eq-NO_INDEX c = rw (eq-eqb c.args.field 255 c.if-i-eq-NO_INDEX.true)
-
-pub number_in-requires : goal.number_in-requires
-number_in-requires c = let h = c.requires in let d = c.if-i-eq-NO_INDEX.false in (h.0, h.1.stripe d, h.1.low d)
 
 pub returns-then-number_in-p : goal.returns-then-number_in-p
 unfolding has_number
@@ -24,9 +20,6 @@ returns-then-i-eq-LAST c =
     let a = c.args in
     let n = c.number_in in
     rw (ne_eqb a.field 255 c.if-i-eq-NO_INDEX.false, ← n.ensures.0, ne_eqb n.result a.p c.if-number_in-p.false, eq-eqb a.field 12 c.if-i-eq-LAST.true)
-
-pub number_in-requires-2 : goal.number_in-requires-2
-number_in-requires-2 c = let h = c.requires in let d = c.if-i-eq-NO_INDEX.false in (h.0, h.1.stripe d, omega (arith, h.1.member d c.if-i-eq-LAST.false))
 
 pub returns : goal.returns
 unfolding has_number

@@ -17,20 +17,17 @@ overflow_mul-first c = omega (arith, start_low c.args.g c.requires.0.chips_fit.l
 
 pub loop-i-init : goal.loop-i-init
 unfolding all_below
-loop-i-init c = (omega arith, refl)
+loop-i-init c = refl
 
 pub overflow_add-first : goal.overflow_add-first
 overflow_add-first c = omega (arith, place c)
 
-pub named_at-requires : goal.named_at-requires
-named_at-requires c = (c.requires.0, (place c).0)
-
 pub loop-i-preserved : goal.loop-i-preserved
 unfolding all_below
-loop-i-preserved c = (omega arith, rw (add-one, c.loop-i.invariant.1, c.named_at.ensures))
+loop-i-preserved c = rw (add-one, c.loop-i.invariant, c.named_at.ensures)
 
 pub returns : goal.returns
 unfolding phase1_sound
 returns c =
     let last : c.loop-i.i ≡ c.args.g.k = omega arith in
-    rw (c.loop-i.invariant.1, last)
+    rw (c.loop-i.invariant, last)

@@ -1,5 +1,4 @@
 -- The loop's invariant: the flag says that none of the first i places of the destination is named.
-use Prim.Native.Nat.{◌-◌, ◌≤◌}
 use mathlib.Core.Path.{◌≡◌}
 use Rattle.ranges.specs.Look.{all_below}
 use Rattle.layout.specs.Layout.{layout_of}
@@ -8,7 +7,4 @@ use Rattle.rules.specs.Blocks.{unnamed_in}
 use Rattle.spares.proofs.phase.phase1_passes.Given as goal
 
 abbrev pub invariant-loop-i : goal.invariant-loop-i
-invariant-loop-i l = (l.i ≤ l.g.k) × (l.free ≡ all_below l.i (unnamed_in (layout_of l.g) (record_at (layout_of l.g) l.records) l.c l.d))
-
-abbrev pub decreases-loop-i : goal.decreases-loop-i
-decreases-loop-i l = l.g.k - l.i
+invariant-loop-i l = l.free ≡ all_below l.i (unnamed_in (layout_of l.g) (record_at (layout_of l.g) l.records) l.c l.d)

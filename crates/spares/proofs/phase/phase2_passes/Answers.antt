@@ -1,4 +1,4 @@
-use Prim.Native.Nat.{◌+◌, ◌*◌, ◌<◌}
+use Prim.Native.Nat.{◌+◌, ◌*◌}
 use native.Mathlib.Numerals.{add-one}
 use native.Mathlib.Omega.{arith}
 use mathlib.Core.Path.{◌≡◌, refl}
@@ -19,29 +19,24 @@ overflow_mul-first c = omega (arith, start_low c.args.g c.requires.0.chips_fit.l
 
 pub loop-i-init : goal.loop-i-init
 unfolding all_below
-loop-i-init c = (omega arith, refl)
+loop-i-init c = refl
 
 pub overflow_add-first : goal.overflow_add-first
 overflow_add-first c = omega (arith, place c)
 
-pub named_at-requires : goal.named_at-requires
-named_at-requires c = (c.requires.0, (place c).0)
-
 pub bounds-counts-i : goal.bounds-counts-i
 bounds-counts-i c =
-    let few : c.loop-i.i < 128 =
-    omega (arith, (within (layout_of c.args.g) c.requires.0.chips_fit.limited).places_high) in
-    few
+    omega (arith, (within (layout_of c.args.g) c.requires.0.chips_fit.limited).places_high)
 
 pub loop-i-preserved : goal.loop-i-preserved
 unfolding all_below
 loop-i-preserved c =
     let o = c.loop-i in
     let twins = c.count_twins-counts.ensures in
-    (omega arith, rw (add-one, o.invariant.1, c.named_at.ensures, twins.are o.i c.loop-i-test.true))
+    rw (add-one, o.invariant, c.named_at.ensures, twins.are o.i c.loop-i-test.true)
 
 pub returns : goal.returns
 unfolding phase2_sound
 returns c =
     let last : c.loop-i.i ≡ c.args.g.k = omega arith in
-    rw (c.loop-i.invariant.1, last)
+    rw (c.loop-i.invariant, last)

@@ -1,5 +1,4 @@
 -- The loop's invariant: the flag says that each named page among the first i places of the victim has one twin.
-use Prim.Native.Nat.{◌-◌, ◌≤◌}
 use mathlib.Core.Path.{◌≡◌}
 use Rattle.ranges.specs.Look.{all_below}
 use Rattle.layout.specs.Layout.{layout_of}
@@ -10,7 +9,4 @@ use Rattle.spares.proofs.phase.phase2_passes.Given as goal
 
 abbrev pub invariant-loop-i : goal.invariant-loop-i
 invariant-loop-i v = let l = layout_of v.g in
-    (v.i ≤ v.g.k) × (v.copied ≡ all_below v.i (one_twin l (record_at l v.records) (page_at l v.chips v.c) v.c v.v v.d))
-
-abbrev pub decreases-loop-i : goal.decreases-loop-i
-decreases-loop-i l = l.g.k - l.i
+    v.copied ≡ all_below v.i (one_twin l (record_at l v.records) (page_at l v.chips v.c) v.c v.v v.d)

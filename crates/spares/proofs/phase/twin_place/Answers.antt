@@ -1,12 +1,10 @@
 -- The page that q is copied from is a page of the victim, or q is no twin.
-use Prim.Native.Nat.{◌+◌, ◌*◌}
 use mathlib.Core.Path.{sym}
 use Rattle.layout.proofs.Limits.{within}
 use native.Mathlib.Omega.{arith}
 use Rattle.layout.specs.Layout.{layout_of}
-use Rattle.octets.proofs.Units.{apart}
 use Rattle.codec.proofs.Fetching.{start_low}
-use Rattle.spares.proofs.Twins.{between, twin_outside, twin_found, twin_missed}
+use Rattle.spares.proofs.Twins.{twin_outside, twin_found, twin_missed}
 use Rattle.spares.proofs.phase.twin_place.Goals as goal
 
 pub overflow_mul-first : goal.overflow_mul-first
@@ -17,17 +15,6 @@ overflow_add-first c = omega (arith, start_low c.args.g c.requires.0.chips_fit.l
 
 pub returns-then-p-first : goal.returns-then-p-first
 returns-then-p-first c = let seen = c.spare_at-u.ensures.0 in sym (twin_outside _ _ _ _ _ _ seen c.if-p-first.true)
-
-pub spare_at-t-requires : goal.spare_at-t-requires
-spare_at-t-requires c =
-    let a = c.args in
-    let here = between c.spare_at-u.result.copied (a.v * a.g.k) (a.v * a.g.k + a.g.k) c.if-p-first.false in
-    (c.requires.0.chips_fit, c.requires.0.chip, omega (arith, here, apart a.g.k a.v a.g.b c.requires.1))
-
-pub overflow_sub-result : goal.overflow_sub-result
-overflow_sub-result c =
-    let a = c.args in
-    (between c.spare_at-u.result.copied (a.v * a.g.k) (a.v * a.g.k + a.g.k) c.if-p-first.false).0
 
 pub returns-then-same : goal.returns-then-same
 returns-then-same c = sym (twin_found _ _ _ _ _ _ c.spare_at-u.ensures.0 c.spare_at-t.ensures.0 c.named_at.ensures c.if-p-first.false c.if-same.true)

@@ -1,9 +1,0 @@
--- The buffer has room for each byte that is taken.
-use Rattle.std.proofs.Common.{◌-◌, ◌≤◌}
-use Rattle.bench.proofs.next_line.Given as goal
-
-abbrev pub invariant-loop-n : goal.invariant-loop-n
-invariant-loop-n g l = l.n ≤ 11
-
-abbrev pub decreases-loop-n : goal.decreases-loop-n
-decreases-loop-n g l = 11 - l.n
