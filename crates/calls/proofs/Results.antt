@@ -19,7 +19,7 @@ use Rattle.layout.specs.Images.{Images}
 use Rattle.layout.proofs.Limits.{Within, places_most, blocks_most}
 use Rattle.layout.proofs.Rotations.{stripe_fits, member_fits}
 use Rattle.steps.specs.declared.Progress.{Progress}
-use Rattle.steps.specs.Steps.{no_counts}
+use Rattle.steps.specs.Steps.{Step, no_counts}
 use Rattle.steps.specs.Allowance.{started, Sane, Ran}
 use Rattle.steps.proofs.Allowances.{ran_none}
 use Rattle.rules.specs.declared.Refusal.{Refusal}
@@ -32,7 +32,7 @@ use Rattle.rules.specs.Collect.{victim_of, collect_block, collect_steps}
 use Rattle.collect.proofs.Rooms.{collect_found}
 use Rattle.rules.specs.Commit.{commit_steps}
 use Rattle.rules.specs.Write.{write_member, write_steps}
-use Rattle.rules.specs.Calls.{Outcome, ReadOutcome, read_into, format_call, open_call, read_call, write_call, commit_call, collect_call}
+use Rattle.rules.specs.Calls.{Outcome, outcome, ReadOutcome, read_into, format_call, open_call, read_call, write_call, commit_call, collect_call}
 use Rattle.rules.proofs.Soundness.Table.{rows_passed, below_passed, below_failed, both_passed}
 use Rattle.rules.proofs.Soundness.Accepted.{write_accepted}
 use Rattle.rules.specs.Capacitor.{write_needs, open_needs, StoresNeeded}
@@ -156,6 +156,17 @@ module _ (g : Geometry) (s : Images) (lost : ℕ) where
 
   -- ---- write, commit and collect
 
+  -- a call with rows below rows 1 to 6 in two parts, refused by rows 1 to 6, or by the first part
+  module _ (mid last : List Row) (steps : Images → List Step) (a : ℕ) where
+    abbrev Turned : Refusal → Type 0
+    Turned r = ◌≡◌ {A = Outcome} (record { answer = Err r; images = s }) (outcome l (checked ((settled_rows l s lost ++ mid) ++ last)) no_counts a steps s)
+
+    turned_first : {r : Refusal} → checked (settled_rows l s lost) ≡ Err r → Turned r
+    turned_first {r} e = call_refused l no_counts s a steps ((settled_rows l s lost ++ mid) ++ last) r (top_refused (settled_rows l s lost) mid last e)
+
+    turned_second : {r : Refusal} → checked (settled_rows l s lost) ≡ Ok tt → checked mid ≡ Err r → Turned r
+    turned_second {r} e f = call_refused l no_counts s a steps ((settled_rows l s lost ++ mid) ++ last) r (mid_refused (settled_rows l s lost) mid last e f)
+
   module _ (page : ℕ) (xs : List ℕ) where
     abbrev page_rows_of : List Row
     page_rows_of = page_rows l page (length xs)
@@ -174,23 +185,23 @@ module _ (g : Geometry) (s : Images) (lost : ℕ) where
           whole = o.whole;
         }
 
-    write_refused : (a : ℕ) {r : Refusal} → checked ((settled_rows l s lost ++ page_rows_of) ++ (chip_set_row lost ∷ [])) ≡ Err r
-        → ◌≡◌ {A = Outcome} (record { answer = Err r; images = s }) (write_call l s lost page xs a)
-    unfolding write_call write_rows
-    write_refused a {r} e = call_refused l no_counts s a (write_steps l page xs) (write_rows l s lost page xs) r e
-
     -- refused by rows 1 to 6, by 7 and 8, by 9
     module _ (a : ℕ) {r : Refusal} where
       pub write_first : checked (settled_rows l s lost) ≡ Err r → ◌≡◌ {A = Outcome} (record { answer = Err r; images = s }) (write_call l s lost page xs a)
-      write_first e = write_refused a (top_refused (settled_rows l s lost) page_rows_of (chip_set_row lost ∷ []) e)
+      unfolding write_call write_rows
+      write_first e = turned_first page_rows_of (chip_set_row lost ∷ []) (write_steps l page xs) a e
 
       pub write_second : checked (settled_rows l s lost) ≡ Ok tt → checked page_rows_of ≡ Err r
           → ◌≡◌ {A = Outcome} (record { answer = Err r; images = s }) (write_call l s lost page xs a)
-      write_second e f = write_refused a (mid_refused (settled_rows l s lost) page_rows_of (chip_set_row lost ∷ []) e f)
+      unfolding write_call write_rows
+      write_second e f = turned_second page_rows_of (chip_set_row lost ∷ []) (write_steps l page xs) a e f
 
       pub write_third : checked (settled_rows l s lost) ≡ Ok tt → checked page_rows_of ≡ Ok tt → checked (chip_set_row lost ∷ []) ≡ Err r
           → ◌≡◌ {A = Outcome} (record { answer = Err r; images = s }) (write_call l s lost page xs a)
-      write_third e f h = write_refused a (below_decide (settled_rows l s lost) page_rows_of (chip_set_row lost ∷ []) e f ∙ h)
+      unfolding write_call write_rows
+      write_third e f h =
+          call_refused l no_counts s a (write_steps l page xs) (write_rows l s lost page xs) r
+          (below_decide (settled_rows l s lost) page_rows_of (chip_set_row lost ∷ []) e f ∙ h)
 
     pub write_ran : (a : ℕ) {look : Look} {p q : Progress} {t : Images} → WriteReady g s lost page xs look → p ≡ started no_counts (min a (2 ^ 59))
         → Ran l p (write_member l (page / g.n) (page % g.n) xs s) q s t → ◌≡◌ {A = Outcome} (record { answer = Ok (answer_of q); images = t }) (write_call l s lost page xs a)
@@ -215,19 +226,16 @@ module _ (g : Geometry) (s : Images) (lost : ℕ) where
     abbrev slot_rows : List Row
     slot_rows = (has_slot (record_at l s.records j), Work) ∷ []
 
-    commit_refused : {r : Refusal} → checked ((settled_rows l s lost ++ free_rows (ltb j g.s) lost) ++ slot_rows) ≡ Err r
-        → ◌≡◌ {A = Outcome} (record { answer = Err r; images = s }) (commit_call l s lost j a)
-    unfolding commit_call commit_rows
-    commit_refused {r} e = call_refused l no_counts s a (commit_steps l j) (commit_rows l s lost j) r e
-
     -- refused by rows 1 to 6, by 7 and 9
     module _ {r : Refusal} where
       pub commit_first : checked (settled_rows l s lost) ≡ Err r → ◌≡◌ {A = Outcome} (record { answer = Err r; images = s }) (commit_call l s lost j a)
-      commit_first e = commit_refused (top_refused (settled_rows l s lost) (free_rows (ltb j g.s) lost) slot_rows e)
+      unfolding commit_call commit_rows
+      commit_first e = turned_first (free_rows (ltb j g.s) lost) slot_rows (commit_steps l j) a e
 
       pub commit_second : checked (settled_rows l s lost) ≡ Ok tt → checked (free_rows (ltb j g.s) lost) ≡ Err r
           → ◌≡◌ {A = Outcome} (record { answer = Err r; images = s }) (commit_call l s lost j a)
-      commit_second e f = commit_refused (mid_refused (settled_rows l s lost) (free_rows (ltb j g.s) lost) slot_rows e f)
+      unfolding commit_call commit_rows
+      commit_second e f = turned_second (free_rows (ltb j g.s) lost) slot_rows (commit_steps l j) a e f
 
     module _ {look : Look} (e : FreeReady g s lost (ltb j g.s) look) where
       -- row 10 decides
@@ -254,19 +262,16 @@ module _ (g : Geometry) (s : Images) (lost : ℕ) where
     abbrev victim_rows : List Row
     victim_rows = (collectable_on l s c, Work) ∷ []
 
-    collect_refused : {r : Refusal} → checked ((settled_rows l s lost ++ free_rows (leb c g.n) lost) ++ victim_rows) ≡ Err r
-        → ◌≡◌ {A = Outcome} (record { answer = Err r; images = s }) (collect_call l s lost c a)
-    unfolding collect_call collect_rows
-    collect_refused {r} e = call_refused l no_counts s a (collect_steps l c) (collect_rows l s lost c) r e
-
     -- refused by rows 1 to 6, by 7 and 9
     module _ {r : Refusal} where
       pub collect_first : checked (settled_rows l s lost) ≡ Err r → ◌≡◌ {A = Outcome} (record { answer = Err r; images = s }) (collect_call l s lost c a)
-      collect_first e = collect_refused (top_refused (settled_rows l s lost) (free_rows (leb c g.n) lost) victim_rows e)
+      unfolding collect_call collect_rows
+      collect_first e = turned_first (free_rows (leb c g.n) lost) victim_rows (collect_steps l c) a e
 
       pub collect_second : checked (settled_rows l s lost) ≡ Ok tt → checked (free_rows (leb c g.n) lost) ≡ Err r
           → ◌≡◌ {A = Outcome} (record { answer = Err r; images = s }) (collect_call l s lost c a)
-      collect_second e f = collect_refused (mid_refused (settled_rows l s lost) (free_rows (leb c g.n) lost) victim_rows e f)
+      unfolding collect_call collect_rows
+      collect_second e f = turned_second (free_rows (leb c g.n) lost) victim_rows (collect_steps l c) a e f
 
     module _ {look : Look} (e : FreeReady g s lost (leb c g.n) look) where
       -- row 10 decides

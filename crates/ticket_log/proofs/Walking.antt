@@ -10,7 +10,7 @@ use lib.Arith.{digits_lt, digits_div, digits_mod}
 use lib.Dec.{eqb}
 use lib.ListN.{length}
 use borrow.Author.Tests.{eqb-true}
-use Rattle.std.specs.Prelude.{Option, Some, None}
+use Rattle.std.specs.Prelude.{Option, Some, None, is_some, unwrap_or}
 use Rattle.ranges.specs.Look.{first_below, last_below, sum_below, when_found}
 use Rattle.ranges.proofs.Looks.{by_test, by_order, by_found, at_last, both, all_at, first_at, first_is, first_none}
 use Rattle.ranges.proofs.Sums.{sum_more}
@@ -141,19 +141,6 @@ module _ (l : Layout) (f : ℕ → List ℕ) where
 
 -- ---- the walk of a store's log
 
--- whether a walk tells something, and what
-abbrev is_walk : Option Walk → Bool
-is_walk (Some x) = true
-is_walk None = false
-
-abbrev walk_in : Walk → Option Walk → Walk
-walk_in other (Some x) = x
-walk_in other None = other
-
-abbrev reads_in : ℕ → Option Walk → ℕ
-reads_in other (Some x) = x.reads
-reads_in other None = other
-
 module _ (l : Layout) (s : Images) (lost lot bag : ℕ) where
   open l use {N, W, S}
 
@@ -228,7 +215,7 @@ module _ (l : Layout) (s : Images) (lost lot bag : ℕ) where
           rw is
           (record {
             tells = rw (t.0, t.1, t.2, t.3, x.told, digits_div i h, x.counted);
-            few = λ o e. rw (ap (reads_in 0) (sym e)) (omega (arith, x.few, x.inside, pages_few l w));
+            few = λ o e. rw (ap (λ (w : Option Walk). (unwrap_or w o).reads) (sym e)) (omega (arith, x.few, x.inside, pages_few l w));
           })
 
       pub walk_broken : r.shown.ended ≡ false → Walked l s lost lot bag None
@@ -241,7 +228,7 @@ module _ (l : Layout) (s : Images) (lost lot bag : ℕ) where
           let wrong =
           breaks l (contents l s lost) (origins l s lost) lot bag x.seen (digits_lt x.inside h)
           (ap (λ (t : Ticket). is_empty t) is ∙ sym (x.shows.ends inside) ∙ ends) (ap ticket_sound is ∙ x.shows.next inside) in
-          record { tells = rw wrong; few = λ o e. both _ (ap is_walk e) refl })
+          record { tells = rw wrong; few = λ o e. both _ (ap (λ (w : Option Walk). is_some w) e) refl })
           (λ h. let all : r.shown.kept ≡ length (contents l s lost i) / ticket_bytes = rw x.long (omega arith) in both _ (x.shows.over all) ends)
 
     pub walk_full : {latest : Latest} {greatest : Origin} {reads i : ℕ} {o : Walk} → o ≡ whole None reads latest greatest → Going latest greatest reads i → N * S ≤ i
@@ -253,26 +240,26 @@ module _ (l : Layout) (s : Images) (lost lot bag : ℕ) where
         rw is
         (record {
           tells = rw (t.0, t.1, t.2, t.3, g.told, g.counted, all);
-          few = λ o e. rw (ap (reads_in 0) (sym e)) (omega (arith, g.few, g.below, pages_few l w));
+          few = λ o e. rw (ap (λ (w : Option Walk). (unwrap_or w o).reads) (sym e)) (omega (arith, g.few, g.below, pages_few l w));
         })
 
   -- what the walk tells of the log
   pub told_broken : {r : Option Walk} → r ≡ walk_of l s lost lot bag → r ≡ None → log_sound l (contents l s lost) ≡ false
-  told_broken e none = by_test (log_sound l (contents l s lost)) (λ h. both _ refl (ap is_walk (sym (rw h at e) ∙ none))) (λ h. h)
+  told_broken e none = by_test (log_sound l (contents l s lost)) (λ h. both _ refl (ap (λ (w : Option Walk). is_some w) (sym (rw h at e) ∙ none))) (λ h. h)
 
   pub told_whole : {r : Option Walk} {x : Walk} → r ≡ walk_of l s lost lot bag → r ≡ Some x
       → (log_sound l (contents l s lost) ≡ true) × (log_end l (contents l s lost) ≡ x.end) × (log_reads l s lost ≡ x.reads) × (standing l (contents l s lost) lot bag ≡ x.standing)
       × (log_origin l (contents l s lost) (origins l s lost) lot bag ≡ x.origin)
   told_whole {r} {x} e some = by_test (log_sound l (contents l s lost))
       (λ sound.
-      let is = ap (walk_in x) (sym (rw sound at e) ∙ some) in (
+      let is = ap (λ (w : Option Walk). unwrap_or w x) (sym (rw sound at e) ∙ some) in (
         sound,
         ap (λ (o : Walk). o.end) is,
         ap (λ (o : Walk). o.reads) is,
         ap (λ (o : Walk). o.standing) is,
         ap (λ (o : Walk). o.origin) is,
       ))
-      (λ h. both _ refl (ap is_walk (sym some ∙ rw h at e)))
+      (λ h. both _ refl (ap (λ (w : Option Walk). is_some w) (sym some ∙ rw h at e)))
 
 -- ---- positions
 

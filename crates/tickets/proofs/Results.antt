@@ -7,7 +7,8 @@ use mathlib.Core.List.{List, [], ◌∷◌, ◌++◌}
 use lib.ListN.{length}
 use lib.Dec.{lit≤, eqb}
 use borrow.Author.Tests.{eqb-true}
-use Rattle.std.specs.Prelude.{Option, Some, None, Result, Ok, Err, ok_or}
+use Rattle.std.specs.Prelude.{Option, Some, None, Result, Ok, Err, ok_or, unwrap_or, is_ok}
+use Rattle.std.specs.Result.{result_err}
 use Rattle.std.proofs.lemmas.List.{append_assoc}
 use Rattle.ranges.specs.Look.{when_found}
 use Rattle.ranges.proofs.Looks.{both, first_at}
@@ -37,17 +38,9 @@ use Rattle.ticket_log.specs.Walks.{walk_of}
 use Rattle.ticket_log.proofs.Walking.{told_broken, told_whole}
 
 -- a search that finds nothing is refused with its row
-abbrev is_found : {A : Type 0} → Result A Refusal → Bool
-is_found (Ok x) = true
-is_found (Err r) = false
-
-abbrev refusal_in : {A : Type 0} → Refusal → Result A Refusal → Refusal
-refusal_in other (Ok x) = other
-refusal_in other (Err r) = r
-
 nothing_found : {A : Type 0} (w : Option A) (row : Refusal) {r : Refusal} → ok_or w row ≡ Err r → (w ≡ None) × (row ≡ r)
-nothing_found None row e = (refl, ap (refusal_in row) e)
-nothing_found (Some x) row e = both _ refl (ap is_found e)
+nothing_found {A} None row e = (refl, ap (λ (x : Result A Refusal). unwrap_or (result_err x) row) e)
+nothing_found {A} (Some x) row e = both _ refl (ap (λ (y : Result A Refusal). is_ok y) e)
 
 -- the rows of an addition about what is given
 abbrev pub given_rows : List ℕ → ℕ → List Row
