@@ -2,7 +2,8 @@
 
 #![tactic(auto)]
 
-ghost use Rattle.std.specs.Prelude.{◌≡◌, cond};
+ghost use Rattle.std.specs.Prelude.{◌≡◌, cond, None};
+ghost use Rattle.steps.specs.Steps.{no_counts};
 ghost use Rattle.rules.specs.Refusals.{refusal_number};
 ghost use Rattle.rules.specs.Origins.{origin_number};
 ghost use Rattle.rules.specs.declared.Answer.TheVariants.{Cut, Done};
@@ -94,7 +95,8 @@ pub fn answer(p: Progress) -> Answer
     }
 }
 
-fn with_counts(status: u64, c: Counts) -> Report
+// A report of an answer that has counts.
+pub fn with_counts(status: u64, c: Counts) -> Report
     ensures { result ≡ report_of status c }
 {
     Report {
@@ -106,6 +108,13 @@ fn with_counts(status: u64, c: Counts) -> Report
     }
 }
 
+// A report of a refusal.
+pub fn without_counts(r: Refusal) -> Report
+    ensures { result ≡ report_of (refusal_number r) no_counts }
+{
+    with_counts(refusal_number(r), Counts::NONE)
+}
+
 // Of a call that stores.
 impl From<Result<Answer, Refusal>> for Report {
     ghost from_gives = { λ given report. report ≡ reported given };
@@ -114,12 +123,13 @@ impl From<Result<Answer, Refusal>> for Report {
         match given {
             Ok(Answer::Done(c)) => with_counts(0, c),
             Ok(Answer::Cut(c)) => with_counts(255, c),
-            Err(r) => with_counts(refusal_number(r), Counts::NONE),
+            Err(r) => without_counts(r),
         }
     }
 }
 
-fn with_origin(status: u64, counts: Counts, origin: u64) -> ReadReport
+// A report of a read that has counts.
+pub fn with_origin(status: u64, counts: Counts, origin: u64) -> ReadReport
     ensures { result ≡ origin_report_of status counts origin }
 {
     ReadReport {
@@ -132,6 +142,13 @@ fn with_origin(status: u64, counts: Counts, origin: u64) -> ReadReport
     }
 }
 
+// A report of a read that is refused.
+pub fn without_origin(r: Refusal) -> ReadReport
+    ensures { result ≡ origin_report_of (refusal_number r) no_counts 0 }
+{
+    with_origin(refusal_number(r), Counts::NONE, 0)
+}
+
 // Of a read.
 impl From<Result<Reading, Refusal>> for ReadReport {
     ghost from_gives = { λ given report. report ≡ read_reported given };
@@ -139,12 +156,13 @@ impl From<Result<Reading, Refusal>> for ReadReport {
     fn from(given: Result<Reading, Refusal>) -> ReadReport {
         match given {
             Ok(x) => with_origin(0, x.counts, origin_number(x.origin)),
-            Err(r) => with_origin(refusal_number(r), Counts::NONE, 0),
+            Err(r) => without_origin(r),
         }
     }
 }
 
-fn with_standing(status: u64, counts: Counts, x: Option<Weight>, origin: u64) -> FindReport
+// A report of a question that has counts.
+pub fn with_standing(status: u64, counts: Counts, x: Option<Weight>, origin: u64) -> FindReport
     ensures { result ≡ standing_report_of status counts x origin }
 {
     let (standing, gross, tare) = match x {
@@ -164,6 +182,13 @@ fn with_standing(status: u64, counts: Counts, x: Option<Weight>, origin: u64) ->
     }
 }
 
+// A report of a question that is refused.
+pub fn without_standing(r: Refusal) -> FindReport
+    ensures { result ≡ standing_report_of (refusal_number r) no_counts None 0 }
+{
+    with_standing(refusal_number(r), Counts::NONE, None, 0)
+}
+
 // Of a question.
 impl From<Result<Finding, Refusal>> for FindReport {
     ghost from_gives = { λ given report. report ≡ find_reported given };
@@ -171,7 +196,7 @@ impl From<Result<Finding, Refusal>> for FindReport {
     fn from(given: Result<Finding, Refusal>) -> FindReport {
         match given {
             Ok(x) => with_standing(0, x.counts, x.standing, origin_number(x.origin)),
-            Err(r) => with_standing(refusal_number(r), Counts::NONE, None, 0),
+            Err(r) => without_standing(r),
         }
     }
 }

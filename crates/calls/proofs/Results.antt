@@ -41,8 +41,8 @@ use Rattle.rules.proofs.Capacitor.{stores_needed}
 use Rattle.rules.proofs.Lists.EachCall.{open_lost}
 use Rattle.rules.proofs.Lists.Answers.{answer_of, call_refused, call_ran}
 use Rattle.looks.specs.declared.Look.{Look}
-use Rattle.looks.specs.Looks.{look_of}
-use Rattle.looks.proofs.Passing.{told_of, found_told, top_refused, mid_refused, below_decide, look_passed, PageReady, page_ready, Ready, ready}
+use Rattle.looks.specs.Looks.{below, look_of}
+use Rattle.looks.proofs.Passing.{told_of, told_by, found_told, rows_below, rows_told, top_refused, mid_refused, below_decide, look_passed, PageReady, page_ready, Ready, ready}
 use Rattle.rules.specs.declared.Origin.{Origin}
 
 -- ---- format
@@ -185,6 +185,19 @@ module _ (g : Geometry) (s : Images) (lost : ℕ) where
           whole = o.whole;
         }
 
+    -- what the look and each of the later rows come to is what the rows come to
+    pub write_told : {given : Result Look Refusal} {k more : Check} → given ≡ look_of l s lost (checked (settled_rows l s lost))
+        → k ≡ below (told_by given) (checked page_rows_of) → more ≡ below k (checked (chip_set_row lost ∷ [])) → more ≡ checked (write_rows l s lost page xs)
+    unfolding write_rows
+    write_told seen e f =
+        f ∙ rw (rows_told l s lost (settled_rows l s lost) page_rows_of seen e)
+        (sym (rows_below (settled_rows l s lost ++ page_rows_of) (chip_set_row lost ∷ [])))
+
+    pub write_refused : (a : ℕ) (r : Refusal) → checked (write_rows l s lost page xs) ≡ Err r
+        → ◌≡◌ {A = Outcome} (record { answer = Err r; images = s }) (write_call l s lost page xs a)
+    unfolding write_call
+    write_refused a r e = call_refused l no_counts s a (write_steps l page xs) (write_rows l s lost page xs) r e
+
     -- refused by rows 1 to 6, by 7 and 8, by 9
     module _ (a : ℕ) {r : Refusal} where
       pub write_first : checked (settled_rows l s lost) ≡ Err r → ◌≡◌ {A = Outcome} (record { answer = Err r; images = s }) (write_call l s lost page xs a)
@@ -198,10 +211,8 @@ module _ (g : Geometry) (s : Images) (lost : ℕ) where
 
       pub write_third : checked (settled_rows l s lost) ≡ Ok tt → checked page_rows_of ≡ Ok tt → checked (chip_set_row lost ∷ []) ≡ Err r
           → ◌≡◌ {A = Outcome} (record { answer = Err r; images = s }) (write_call l s lost page xs a)
-      unfolding write_call write_rows
-      write_third e f h =
-          call_refused l no_counts s a (write_steps l page xs) (write_rows l s lost page xs) r
-          (below_decide (settled_rows l s lost) page_rows_of (chip_set_row lost ∷ []) e f ∙ h)
+      unfolding write_rows
+      write_third e f h = write_refused a r (below_decide (settled_rows l s lost) page_rows_of (chip_set_row lost ∷ []) e f ∙ h)
 
     pub write_ran : (a : ℕ) {look : Look} {p q : Progress} {t : Images} → WriteReady g s lost page xs look → p ≡ started no_counts (min a (2 ^ 59))
         → Ran l p (write_member l (page / g.n) (page % g.n) xs s) q s t → ◌≡◌ {A = Outcome} (record { answer = Ok (answer_of q); images = t }) (write_call l s lost page xs a)

@@ -86,11 +86,11 @@ in_range {n} {pages} {tops} r m x h small t d =
     (λ b. let top = rw (le-ltb m n b) at (r.is m h) in absurd (d (omega arith)))
 
 -- the parity page is below the pages
-parity_low : (p pages : ℕ) → eqb p 65535 || ltb p pages ≡ true → p ≢ 65535 → p < pages
+pub parity_low : (p pages : ℕ) → eqb p 65535 || ltb p pages ≡ true → p ≢ 65535 → p < pages
 parity_low p pages t d = ltb-true p pages (unless_equal p 65535 (ltb p pages) t d)
 
 -- without one there are no pages
-no_parity : (p names : ℕ) → not (eqb p 65535) || eqb names 0 ≡ true → p ≡ 65535 → names ≡ 0
+pub no_parity : (p names : ℕ) → not (eqb p 65535) || eqb names 0 ≡ true → p ≡ 65535 → names ≡ 0
 no_parity p names t q = eqb-true names 0 (under (eqb p 65535) (eqb names 0) t (eq-eqb p 65535 q))
 
 -- a number that is written is within its range, and a page exactly if a member's
@@ -214,7 +214,7 @@ module _ {xs : List ℕ} {a : ℕ} (long : a + 32 ≤ length xs) (bytes : (i : �
 module _ {g : Geometry} {xs tops : List ℕ} {j p : ℕ} (fit : RecordsFit g xs) (stripe : j < g.s)
     (ranges : Ranges g.n (g.b * g.k) tops) (bytes : (i : ℕ) → get_or xs i 0 < 256) (is : p ≡ number_at xs (j * 32 + 24)) where
   -- it is plain where its ending is clear, its numbers are within their ranges, and there are none without a parity page
-  plain : Clear xs (j * 32) → all_below 8 (low_in tops xs (j * 32)) ≡ true
+  pub plain : Clear xs (j * 32) → all_below 8 (low_in tops xs (j * 32)) ≡ true
       → (p ≢ 65535 → p < g.b * g.k) → (p ≡ 65535 → count_below 8 (given_in xs (j * 32)) ≡ 0)
       → Plain (layout_of g) (record_at (layout_of g) xs j) (count_below 8 (given_in xs (j * 32)) + cond (eqb p 65535) 0 1)
   unfolding records_length

@@ -165,7 +165,7 @@ module _ {g : Geometry} {x₀ r₀ r₁ zs : List ℕ} {c v d : ℕ} {p p₁ : P
   f : Sound l s
   f = sound g x₀ r₀ b.settled.checked zs b.slots
 
-  chosen : Chosen l s c v d
+  pub chosen : Chosen l s c v d
   chosen = chosen_on l u s f b.settled.at_rest c (omega (arith, b.chip)) v d b.block b.can b.clean
 
   -- the list of the first half, as the code comes to it

@@ -5,10 +5,9 @@ use mathlib.Core.List.{[], ◌∷◌}
 use native.Mathlib.Omega.{arith}
 use Rattle.ranges.proofs.Looks.{by_order}
 use Rattle.layout.specs.Layout.{Layout}
-use Rattle.layout.specs.Collection.{Collection}
 use Rattle.layout.specs.Images.{Images}
-use Rattle.steps.specs.Store.{collection, apply}
-use Rattle.steps.specs.Steps.{Step, plain, programs_of, erases_of}
+use Rattle.steps.specs.Store.{apply}
+use Rattle.steps.specs.Steps.{Step, programs_of, erases_of}
 use Rattle.steps.specs.declared.Progress.{Progress}
 use Rattle.steps.specs.Allowance.{most_reads, Sane, Ran}
 use Rattle.steps.proofs.Allowances.{counting, stopped, ran_stop, ran_one}
@@ -21,7 +20,3 @@ pub ran_store : (l : Layout) (p r : Progress) (x : Step) (s t : Images) → Sane
 ran_store l p r x s t h few none one = by_order 0 p.left
     (λ some. let q = one some in rw q.1 (ran_one l p x s t h some few q.0))
     (λ rest. let e : p.left ≡ 0 = omega arith in let q = none e in rw (q.0, q.1) (ran_stop l p x s h e))
-
--- the collection record that is stored, said in another way
-pub ran_collection : {l : Layout} {p r : Progress} {s t : Images} {a b : Collection} → a ≡ b → Ran l p (plain (collection a) ∷ []) r s t → Ran l p (plain (collection b) ∷ []) r s t
-ran_collection e h = rw e at h

@@ -3,7 +3,6 @@ use Prim.Native.Nat.{ℕ, ◌+◌, ◌-◌, ◌/◌, ◌%◌, ◌^◌, ◌≤◌
 use native.Mathlib.Nat.{zero-add}
 use native.Mathlib.Omega.{arith}
 use mathlib.Core.Path.{◌≡◌, refl, sym, ap, ap₂, ◌∙◌}
-use mathlib.Core.Logic.{◌⊎◌, inl, inr}
 use mathlib.Core.Bool.{Bool, true, false, not, cond, ◌&&◌, ◌||◌}
 use mathlib.Core.List.{List}
 use lib.Dec.{eqb}
@@ -135,10 +134,6 @@ current_fits g e h = rw e at h
 
 pub old_fits : (g : Geometry) {role : Role} {m : ℕ} → role ≡ Old m → RoleFits g role → m < g.n
 old_fits g e h = rw e at h
-
-pub member_fits : (g : Geometry) {role : Role} {m : ℕ} → (role ≡ Current m) ⊎ (role ≡ Old m) → RoleFits g role → m < g.n
-member_fits g (inl e) h = current_fits g e h
-member_fits g (inr e) h = old_fits g e h
 
 -- the numbers of a record by their index are those of its members, and of the parity
 pub number_current : (r : Record) (m : ℕ) → m < 6 → number_of r m ≡ r.current m

@@ -98,7 +98,9 @@ fn chip_of(g: Geometry, parity: usize, role: Role) -> usize
     ensures { ((j : ℕ) → parity ≡ parity_chip (layout_of g) j → result ≡ chip_in (layout_of g) j role) × (result ≤ g.n) }
 {
     match role {
-        Role::Current(m) | Role::Old(m) => chip_beside(parity, m),
+        // an arm each, so that an edit of one is refused where its role's chip is wanted
+        Role::Current(m) => chip_beside(parity, m),
+        Role::Old(m) => chip_beside(parity, m),
         Role::Parity => parity,
     }
 }

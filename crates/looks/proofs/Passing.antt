@@ -23,7 +23,7 @@ use Rattle.ranges.specs.Look.{when_found}
 use Rattle.std.specs.Result.{IsErrAnd}
 use Rattle.std.proofs.lemmas.Result.{err_from_is_err_and}
 use Rattle.rules.specs.Sound.{record_sound, is_lost}
-use Rattle.rules.proofs.Soundness.Table.{not_passed, rows_passed, below_passed, below_failed, both_passed}
+use Rattle.rules.proofs.Soundness.Table.{by_check, not_passed, rows_passed, below_passed, below_failed, both_passed}
 use Rattle.rules.proofs.Soundness.Accepted.{buffers_accepted, images_accepted, settled_accepted}
 use Rattle.rules.proofs.Soundness.Checks.{lengths_are, records_check_pass, spares_check_pass}
 use Rattle.rules.proofs.Soundness.RecordChecks.{record_pass}
@@ -35,7 +35,7 @@ use Rattle.spares.specs.Scans.{chip_scans}
 use Rattle.space.specs.Victims.{Victims}
 use Rattle.space.proofs.Victims.{victims_known}
 use Rattle.looks.specs.declared.Look.{Look}
-use Rattle.looks.specs.Looks.{look_of}
+use Rattle.looks.specs.Looks.{below, look_of}
 
 -- what `?` answers where a check has failed
 pub turned_back : {T : Type 0} {given : Result T Refusal} (r : Refusal) → IsErrAnd given (λ e. e ≡ r) → given ≡ Err r
@@ -63,6 +63,12 @@ row_passed {test = test} row below e f g = passed_at test row below (rw (sym f) 
 pub test_passed : {told : Check} {made test : Bool} (row : Refusal) → told ≡ unless made row (Ok tt) → made ≡ test → told ≡ Ok tt → test ≡ true
 test_passed {test = test} row e f g = (rows_passed ((test, row) ∷ []) (rw (sym f) (sym e ∙ g))).0
 
+-- rows below others, as a check goes on from what the others came to
+pub rows_below : (above rest : List Row) → checked (above ++ rest) ≡ below (checked above) (checked rest)
+rows_below above rest = by_check (checked above)
+    (λ h. rw h (below_passed above rest h))
+    (λ r h. rw h (below_failed above rest r h))
+
 -- rows in three parts, as a call goes through them
 module _ (top mid below : List Row) where
   pub top_refused : {r : Refusal} → checked top ≡ Err r → checked ((top ++ mid) ++ below) ≡ Err r
@@ -87,7 +93,7 @@ found_told (Some n) row = refl
 -- ---- looks
 
 -- what a look has come to, as a check
-abbrev told_by : Result Look Refusal → Check
+abbrev pub told_by : Result Look Refusal → Check
 told_by (Ok look) = Ok tt
 told_by (Err r) = Err r
 
@@ -99,6 +105,11 @@ module _ (l : Layout) (s : Images) (lost : ℕ) where
   check_told : (k : Check) → told_by (look_of l s lost k) ≡ k
   check_told (Ok tt) = refl
   check_told (Err r) = refl
+
+  -- rows below those of a look, as a check goes on from it
+  pub rows_told : (above rest : List Row) {given : Result Look Refusal} {k : Check} → given ≡ look_of l s lost (checked above)
+      → k ≡ below (told_by given) (checked rest) → k ≡ checked (above ++ rest)
+  rows_told above rest seen e = e ∙ rw (ap told_by seen ∙ check_told (checked above)) (sym (rows_below above rest))
 
   -- a look that ends in a refusal
   pub look_refused : {k : Check} {given : Result Look Refusal} {r : Refusal} → given ≡ look_of l s lost k → given ≡ Err r → k ≡ Err r

@@ -10,6 +10,11 @@ use Rattle.records.specs.Slots.{slot_scan}
 use Rattle.spares.specs.Scans.{chip_scans}
 use Rattle.looks.specs.declared.Look.{Look}
 
+-- rows below others count where those above have passed
+abbrev pub below : Check → Check → Check
+below (Ok tt) rest = rest
+below (Err r) rest = Err r
+
 -- where the rows pass: the scan of each chip but the lost one, and what the records tell of the slots; else their refusal
 abbrev pub look_of : Layout → Images → ℕ → Check → Result Look Refusal
 look_of l s lost (Ok tt) =

@@ -7,7 +7,7 @@ ghost use Rattle.std.specs.Prelude.{◌≡◌, ◌*◌, ltb, Ok};
 ghost use Rattle.layout.specs.Layout.{layout_of};
 ghost use Rattle.rules.specs.Refusals.{unless, checked, buffers_rows, images_rows, settled_rows};
 ghost use Rattle.steps.specs.Allowance.{images};
-ghost use Rattle.looks.specs.Looks.{look_of};
+ghost use Rattle.looks.specs.Looks.{below, look_of};
 
 use codec::collection_at;
 use codec::limits::{geometry_passes, lengths_pass};
@@ -82,6 +82,16 @@ pub fn settled_look(
     let co = collection_at(records, g);
     require(co.phase == 0, Refusal::Collection)?;
     Ok(look)
+}
+
+// A row more below those that came to a check.
+pub fn also(above: Check, test: bool, r: Refusal) -> Check
+    ensures { result ≡ below above (unless test r (Ok tt)) }
+{
+    match above {
+        Ok(()) => require(test, r),
+        Err(first) => Err(first),
+    }
 }
 
 // Whether there is such a logical page, in any geometry.

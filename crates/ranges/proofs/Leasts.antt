@@ -7,7 +7,12 @@ use mathlib.Core.Bool.{Bool, true, false}
 use Rattle.std.specs.Prelude.{Option, Some, None}
 use Rattle.ranges.specs.declared.Least.{Least}
 use Rattle.ranges.specs.Look.{least_below, least_of, least_so_far, found_in}
-use Rattle.ranges.proofs.Looks.{by_found, both, least_skips, least_here, least_better, least_keeps}
+use Rattle.ranges.proofs.Looks.{by_found, both, least_start, least_skips, least_here, least_better, least_keeps}
+
+-- none before the first
+pub least_none : (f : ℕ → Bool) (m : ℕ → ℕ) → None ≡ least_so_far f m 0
+unfolding least_so_far
+least_none f m = rw (least_start f m)
 
 -- what was found
 found_of : (m : ℕ → ℕ) (x : Option ℕ) → found_in (least_of m x) ≡ x
@@ -44,18 +49,19 @@ module _ (f : ℕ → Bool) (m : ℕ → ℕ) (n : ℕ) {l : Option Least} (h : 
         rw (add-one, least_keeps n f m i t q (omega arith)) (h ∙ rw q))
         (λ q. both false (sym (ap is_one (sym is ∙ h ∙ ap (least_of m) q))) refl)
 
-    -- its measure is more
-    pub least_beaten : (best : Least) → l ≡ Some best → k < best.measure → Some (record { at = n; measure = k }) ≡ least_so_far f m (n + 1)
+    -- or none was, or its measure is more
+    pub least_taken : ((best : Least) → l ≡ Some best → k < best.measure) → Some (record { at = n; measure = k }) ≡ least_so_far f m (n + 1)
     unfolding least_so_far
-    least_beaten best is s = by_found (least_below n f m)
+    least_taken s = by_found (least_below n f m)
         (λ i q.
-        let same : best.measure ≡ m i = ap (measure_in k) (sym is ∙ h ∙ ap (least_of m) q) in
+        let more : k < m i = s (record { at = i; measure = m i }) (h ∙ ap (least_of m) q) in
         rw (add-one, least_better n f m i t q (omega arith), e))
         (λ q. rw (add-one, least_here n f m t q, e))
 
+    -- its measure is more
+    pub least_beaten : (best : Least) → l ≡ Some best → k < best.measure → Some (record { at = n; measure = k }) ≡ least_so_far f m (n + 1)
+    least_beaten best is s = least_taken (λ other e. let same : best.measure ≡ other.measure = ap (measure_in k) (sym is ∙ e) in omega arith)
+
     -- none was found
     pub least_first : l ≡ None → Some (record { at = n; measure = k }) ≡ least_so_far f m (n + 1)
-    unfolding least_so_far
-    least_first none = by_found (least_below n f m)
-        (λ i q. both false (ap is_one (sym none ∙ h ∙ ap (least_of m) q)) refl)
-        (λ q. rw (add-one, least_here n f m t q, e))
+    least_first none = least_taken (λ best is. both false (ap is_one (sym none ∙ is)) refl)

@@ -45,9 +45,9 @@ module _ (k : ℕ) {from : ℕ} where
   pub together_end : (b : ℕ) → from ≤ b → from * k + (b - from) * k ≡ b * k
   together_end b high = let e : from + (b - from) ≡ b = omega arith in rw (← add-mul, e)
 
-  -- block b, whose pages stand behind theirs, is within those before the end
-  pub together_in : (b end : ℕ) → from ≤ b → b < end → (b - from) * k + k ≤ (end - from) * k
-  together_in b end high less = omega (arith, together_end b high, together_end end (omega arith), suc-mul b k, mul-le-mul_right k less)
+  -- block b, whose pages stand from place o on, is within those before the end
+  pub together_in : (b o end : ℕ) → from < end → from * k + o ≡ b * k → b < end → o + k ≤ (end - from) * k
+  together_in b o end some here less = omega (arith, here, together_end end (omega arith), suc-mul b k, mul-le-mul_right k less)
 
 -- of fewer pages the same holds
 pub stamps_fewer : {x : ℕ → Page} {first m n : ℕ} {tags stripes : List ℕ} → m ≤ n → StampsOf x first n tags stripes → StampsOf x first m tags stripes

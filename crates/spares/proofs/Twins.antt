@@ -110,7 +110,7 @@ module _ (l : Layout) (r : ℕ → Record) (x : ℕ → Page) (c v : ℕ) where
 
   module _ {d i : ℕ} {counts : List ℕ} (h : Twins l r x c v d i counts) where
     -- no more twins than places looked at
-    twins_few : (m : ℕ) → m < K → get_or counts m 0 ≤ i
+    pub twins_few : (m : ℕ) → m < K → get_or counts m 0 ≤ i
     twins_few m low = rw (h.are m low) (count_le i (twin_in l r x c d (page_in l v m)))
 
     -- a place that is found is one of the counts, which are small

@@ -38,10 +38,10 @@ struct Fill {
 // The stamps of some pages of a chip, one behind another from page `first` on, and the field of each.
 #[derive(Clone, Copy)]
 pub struct Stamps {
-    first: usize,
-    tags: [u16; 128],
-    stripes: [u16; 128],
-    fields: [u16; 128],
+    pub first: usize,
+    pub tags: [u16; 128],
+    pub stripes: [u16; 128],
+    pub fields: [u16; 128],
 }
 
 // The field of a page is the index of its number in the record of its stripe. That of the page of chip c with this tag and stripe j; none
@@ -107,7 +107,7 @@ impl Stamps {
         self.first = first;
         // array by array, for codec stands below this struct
         fetch_stamps(chips, g, c, first, count, &mut self.tags, &mut self.stripes);
-        self.find_fields(g, c, count);
+        self.fields_of(g, c, count);
     }
 
     // The fields of so many pages of chip c.
@@ -123,7 +123,7 @@ impl Stamps {
     }
 
     // The same for any N. Each call gives the width as a constant, for a remainder by a constant takes no division.
-    fn find_fields(&mut self, g: Geometry, c: usize, count: usize)
+    pub fn fields_of(&mut self, g: Geometry, c: usize, count: usize)
         requires { (limits (layout_of g) ≡ true) × (c ≤ g.n) × (count ≤ 128) }
         ensures { FieldsOf (layout_of g) c count self.new.tags self.new.stripes self.new.fields
             × (self.new.first ≡ self.old.first) × (self.new.tags ≡ self.old.tags) × (self.new.stripes ≡ self.old.stripes) }

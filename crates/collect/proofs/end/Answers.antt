@@ -6,8 +6,6 @@ use mathlib.Core.List.{[]}
 use Rattle.layout.specs.Layout.{layout_of}
 use Rattle.steps.specs.Allowance.{images}
 use Rattle.steps.proofs.Allowances.{ran_append}
-use Rattle.device.proofs.Stores.{ran_collection}
-use Rattle.codec.specs.Views.{collection_from}
 use Rattle.collect.proofs.end.Goals as goal
 
 pub store_collection-requires : goal.store_collection-requires
@@ -18,7 +16,7 @@ returns c =
     let a = c.args in
     let r = a.records.now in
     let x = c.erase-erased.new.chips in
-    let idle : collection_from c.default-idle.result ≡ collection_from (record { phase = 0; chip = 0; victim = 0; destination = 0 }) = search (rules, c.default-idle.ensures) in
+    let idle : c.default-idle.result ≡ record { phase = 0; chip = 0; victim = 0; destination = 0 } = search (rules, c.default-idle.ensures) in
     λ zs.
     ran_append (layout_of a.g) _ _ _ _ _ (images a.chips.now r zs) (images x r zs) _ (c.erase-erased.ensures r zs)
-    (ran_collection idle (c.store_collection.ensures x zs))
+    (rw idle at c.store_collection.ensures x zs)

@@ -19,8 +19,9 @@ seen : (c : goal.After-scan_block-scan) → let a = c.args in let l = layout_of 
     c.scan_block-scan.result ≡ block_scan l (record_at l a.records.now) (page_at l a.chips.now a.c) a.c c.loop-b.b
 seen c =
     let a = c.args in
-    let few = together_in a.g.k c.loop-b.b a.end c.loop-b.auto.b c.loop-b-test.true in
-    c.scan_block-scan.ensures (page_at (layout_of a.g) a.chips.now a.c) a.c c.loop-b.b c.requires.2 (rw c.fetch.ensures.0 (together_end a.g.k c.loop-b.b c.loop-b.auto.b))
+    let here = together_end a.g.k c.loop-b.b c.loop-b.auto.b in
+    let few = together_in a.g.k c.loop-b.b _ a.end c.requires.3 here c.loop-b-test.true in
+    c.scan_block-scan.ensures (page_at (layout_of a.g) a.chips.now a.c) a.c c.loop-b.b c.requires.2 (rw c.fetch.ensures.0 here)
     (stamps_fewer few c.fetch.ensures.1)
     (fields_fewer (layout_of a.g) a.c few c.fetch.ensures.2)
 
@@ -41,7 +42,7 @@ pub scan_block-scan-requires : goal.scan_block-scan-requires
 scan_block-scan-requires c =
     let a = c.args in
     let here = together_end a.g.k c.loop-b.b c.loop-b.auto.b in
-    let few = together_in a.g.k c.loop-b.b a.end c.loop-b.auto.b c.loop-b-test.true in
+    let few = together_in a.g.k c.loop-b.b _ a.end c.requires.3 here c.loop-b-test.true in
     let block : c.loop-b.b + 1 ≤ a.g.b = omega (arith, c.loop-b-test.true, c.requires.4) in (
       c.requires.1,
       omega (arith, here, suc-mul c.loop-b.b a.g.k, mul-le-mul_right a.g.k block),

@@ -3,7 +3,7 @@ use native.Mathlib.Omega.{arith}
 use mathlib.Core.Path.{◌≡◌}
 use Rattle.layout.specs.Layout.{layout_of}
 use Rattle.layout.proofs.Limits.{within}
-use Rattle.spares.proofs.block.Stamps.find_fields.Goals as goal
+use Rattle.spares.proofs.block.Stamps.fields_of.Goals as goal
 
 pub find_by_width-requires-in_default : goal.find_by_width-requires-in_default
 find_by_width-requires-in_default c =
